@@ -1,0 +1,2 @@
+// Turns and files in bytes. Strokes and curves are held by where their points and numbers start in the bytes.
+pub mod edits;

@@ -1,0 +1,9 @@
+pub mod Undo
+pub mod Outside
+pub mod Examples
+pub mod Same
+pub mod Agreeing
+pub mod Forming
+pub mod Bounds
+pub mod Colouring
+pub mod Flooding

@@ -1,0 +1,10 @@
+pub mod Layers
+pub mod Selection
+pub mod Filters
+pub mod Edits
+pub mod History
+pub mod Fits
+pub mod Laws
+pub mod Worked
+pub mod Agree
+pub mod Flood

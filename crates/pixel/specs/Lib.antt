@@ -1,0 +1,4 @@
+pub mod Channels
+pub mod Pixels
+pub mod Modes
+pub mod Bytes
