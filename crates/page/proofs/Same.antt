@@ -107,3 +107,10 @@ module _ (w h : ℕ) where
   without-agree (x ∷ ls) [] k a = absurd a
   without-agree (x ∷ ls) (y ∷ ms) zero a = a .1
   without-agree (x ∷ ls) (y ∷ ms) (suc k) a = (a .0, without-agree ls ms k (a .1))
+
+  -- layer by layer
+  pub layers-by : (ls ms : List Layer) → length ls ≡ length ms → ((k : ℕ) → k < length ls → Layer-agree w h (getD ls k clear-layer) (getD ms k clear-layer)) → Layers-agree w h ls ms
+  layers-by [] [] e f = tt
+  layers-by [] (m ∷ ms) e f = absurd (omega arith)
+  layers-by (l ∷ ls) [] e f = absurd (omega arith)
+  layers-by (l ∷ ls) (m ∷ ms) e f = (f 0 (omega arith), layers-by ls ms (omega arith) (λ k lt. f (suc k) (omega arith)))

@@ -1,4 +1,4 @@
--- The step of every loop over pixels and over bytes.
+-- The step of every loop over pixels and over bytes. Assumes nothing.
 use mathlib.Core.Path.{_≡_, refl, sym, ap, subst, _∙_}
 use mathlib.Core.List.{List}
 use mathlib.Core.Logic.{_⊎_, inl, inr, _≢_}
@@ -9,7 +9,7 @@ use lib.Seq.{getD-set-same, getD-set-other}
 use Rattle.std.proofs.shelf.Tests.{cases-eq}
 use borrow.Author.Count.{below-more}
 use Rattle.pixel.specs.declared.Pixel.{Pixel}
-use Rattle.pixel.specs.Bytes.{pixel-at, put-pixel, Pixels-to, Bytes-to}
+use Rattle.pixel.specs.Bytes.{pixel-at, put-pixel, Pixels-to, Bytes-to, Wrote}
 
 pub length-put : (xs : List ℕ) (at : ℕ) (p : Pixel) → length (put-pixel xs at p) ≡ length xs
 length-put xs at p = simp length-set
@@ -84,11 +84,22 @@ bytes-more f at k xs ys v long is so = record {
 pub pixels-step : (f : ℕ → Pixel) (at k : ℕ) (xs ys zs : List ℕ) (p : Pixel) → at + 4 * (k + 1) ≤ length ys → zs ≡ put-pixel ys (at + 4 * k) p → p ≡ f k → Pixels-to f at k xs ys → Pixels-to f at (k + 1) xs zs
 pixels-step f at k xs ys zs p long e is so = subst (λ (ws : List ℕ). Pixels-to f at (k + 1) xs ws) (sym e) (pixels-more f at k xs ys p long is so)
 
--- a pixel that a loop has not come to, and one outside what it writes
+-- what a loop leaves, without what it writes
+pub pixels-wrote : (f : ℕ → Pixel) (at n : ℕ) (xs ys : List ℕ) → Pixels-to f at n xs ys → Wrote at (at + 4 * n) xs ys
+pixels-wrote f at n xs ys so = record { long = so .long; before = so .before; after = so .after }
+
+pub bytes-wrote : (f : ℕ → ℕ) (at n : ℕ) (xs ys : List ℕ) → Bytes-to f at n xs ys → Wrote at (at + n) xs ys
+bytes-wrote f at n xs ys so = record { long = so .long; before = so .before; after = so .after }
+
+-- a pixel outside what is written
+pub pixel-kept : (a e : ℕ) (xs ys : List ℕ) (q : ℕ) → Wrote a e xs ys → (q + 4 ≤ a) ⊎ (e ≤ q) → pixel-at ys q ≡ pixel-at xs q
+pixel-kept a e xs ys q so h =
+    let byte : (p : ℕ) → q ≤ p → p < q + 4 → getD ys p 0 ≡ getD xs p 0
+    = λ p l m. elim h [ inl u ↦ so .before p (omega arith) | inr u ↦ so .after p (omega arith) ] in
+    same-pixel (pixel-at ys q) (pixel-at xs q) (byte q (omega arith) (omega arith)) (byte (q + 1) (omega arith) (omega arith)) (byte (q + 2) (omega arith) (omega arith)) (byte (q + 3) (omega arith) (omega arith))
+
 pub pixel-after : (f : ℕ → Pixel) (at n : ℕ) (xs ys : List ℕ) (q : ℕ) → Pixels-to f at n xs ys → at + 4 * n ≤ q → pixel-at ys q ≡ pixel-at xs q
-pixel-after f at n xs ys q so h =
-    same-pixel (pixel-at ys q) (pixel-at xs q) (so .after q h) (so .after (q + 1) (omega arith)) (so .after (q + 2) (omega arith)) (so .after (q + 3) (omega arith))
+pixel-after f at n xs ys q so h = pixel-kept at (at + 4 * n) xs ys q (pixels-wrote f at n xs ys so) (inr h)
 
 pub pixel-before : (f : ℕ → Pixel) (at n : ℕ) (xs ys : List ℕ) (q : ℕ) → Pixels-to f at n xs ys → q + 4 ≤ at → pixel-at ys q ≡ pixel-at xs q
-pixel-before f at n xs ys q so h =
-    same-pixel (pixel-at ys q) (pixel-at xs q) (so .before q (omega arith)) (so .before (q + 1) (omega arith)) (so .before (q + 2) (omega arith)) (so .before (q + 3) (omega arith))
+pixel-before f at n xs ys q so h = pixel-kept at (at + 4 * n) xs ys q (pixels-wrote f at n xs ys so) (inl h)

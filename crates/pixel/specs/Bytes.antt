@@ -25,3 +25,9 @@ pub record Bytes-to (f : ℕ → ℕ) (at n : ℕ) (xs ys : List ℕ) : Type 0 w
   pub written : (k : ℕ) → k < n → getD ys (at + k) 0 ≡ f k
   pub before : (q : ℕ) → q < at → getD ys q 0 ≡ getD xs q 0
   pub after : (q : ℕ) → at + n ≤ q → getD ys q 0 ≡ getD xs q 0
+
+-- ys is xs but for the bytes from a up to e
+pub record Wrote (a e : ℕ) (xs ys : List ℕ) : Type 0 where
+  pub long : length ys ≡ length xs
+  pub before : (q : ℕ) → q < a → getD ys q 0 ≡ getD xs q 0
+  pub after : (q : ℕ) → e ≤ q → getD ys q 0 ≡ getD xs q 0
