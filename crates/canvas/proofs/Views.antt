@@ -37,7 +37,7 @@ planes-apart n k m q ne l =
       ]
     ]
 
-module _ (s : Canvas) (long : length (s .layers) ≡ 64) where
+module _ (s : Canvas) where
   abbrev w : ℕ
   w = s .wide
 
@@ -54,12 +54,12 @@ module _ (s : Canvas) (long : length (s .layers) ≡ 64) where
   pub view-layer : (xs : List ℕ) (k : ℕ) → k < s .count → layer (view s xs) k ≡ layer-of w h xs (entry k)
   view-layer xs k l =
       let f = layer-of w h xs in
-      let few : s .count ≤ length (s .layers) = omega (arith, s .counted .1) in
+      let few : s .count ≤ length (s .layers) = omega (arith, s .full, s .counted .1) in
       let m : k < length (take (s .count) (s .layers)) = omega (arith, length-take-le (s .count) (s .layers) few) in
       getD-map f (take (s .count) (s .layers)) k no-entry clear-layer m ∙ ap f (getD-take (s .count) (s .layers) k no-entry l)
 
   pub view-count : (xs : List ℕ) → length (view s xs .layers) ≡ s .count
-  view-count xs = length-map (take (s .count) (s .layers)) (layer-of w h xs) ∙ length-take-le (s .count) (s .layers) (omega (arith, s .counted .1))
+  view-count xs = length-map (take (s .count) (s .layers)) (layer-of w h xs) ∙ length-take-le (s .count) (s .layers) (omega (arith, s .full, s .counted .1))
 
   entry-agree : (xs ys : List ℕ) (k : ℕ) → Same w h (layer-of w h ys (entry k) .pixels) (layer-of w h xs (entry k) .pixels) → Layer-agree w h (layer-of w h ys (entry k)) (layer-of w h xs (entry k))
   entry-agree xs ys k same = record { same-mode = refl; same-opacity = refl; same-visible = refl; same-pixels = same }
@@ -81,7 +81,7 @@ module _ (s : Canvas) (long : length (s .layers) ≡ 64) where
         same-high = refl;
         same-active = refl;
         same-layers = layers-kept xs ys (λ k l i j iw jh. pixel-kept _ _ xs ys _ so
-            (inl (omega (arith, plane-in n (entry k .plane) (s .planes k no-entry (omega (arith, s .counted .1))), mul-add-lt j w i h jh iw))));
+            (inl (omega (arith, plane-in n (entry k .plane) (s .planes k no-entry (omega (arith, s .full, s .counted .1))), mul-add-lt j w i h jh iw))));
         same-selected = is;
         same-clipboard = λ i j iw jh. pixel-kept _ _ xs ys _ so (inr (omega arith));
       }
@@ -99,7 +99,7 @@ module _ (s : Canvas) (long : length (s .layers) ≡ 64) where
       = record { same-mode = sym (ap (λ (l : Layer). l .mode) at); same-opacity = sym (ap (λ (l : Layer). l .opacity) at); same-visible = sym (ap (λ (l : Layer). l .visible) at); same-pixels = is } in
       let other : (k : ℕ) → k < s .count → k ≢ a → Layer-agree w h (layer-of w h ys (entry k)) (layer-of w h xs (entry k))
       = λ k l ne. entry-agree xs ys k (λ i j iw jh. pixel-kept _ _ xs ys _ so
-          (planes-apart n (entry k .plane) (entry a .plane) (j * w + i) (λ e. ne (s .distinct (k, a, no-entry) (omega (arith, s .counted .1), omega (arith, s .counted), e))) (omega (arith, mul-add-lt j w i h jh iw)))) in
+          (planes-apart n (entry k .plane) (entry a .plane) (j * w + i) (λ e. ne (s .distinct (k, a, no-entry) (omega (arith, s .full, s .counted .1), omega (arith, s .counted), e))) (omega (arith, mul-add-lt j w i h jh iw)))) in
       record {
         same-wide = refl;
         same-high = refl;
@@ -164,15 +164,15 @@ module _ (s : Canvas) (long : length (s .layers) ≡ 64) where
       }
 
 -- the blank page from what three loops leave
-pub blanked : (w h m : ℕ) (s : Canvas) (xs ys zs us : List ℕ) → length (s .layers) ≡ 64 → m ≡ w * h → Fresh-canvas w h s → Pixels-to (λ k. clear) 0 m xs ys → Bytes-to (λ k. 255) (516 * m) m ys zs →
+pub blanked : (w h m : ℕ) (s : Canvas) (xs ys zs us : List ℕ) → m ≡ w * h → Fresh-canvas w h s → Pixels-to (λ k. clear) 0 m xs ys → Bytes-to (λ k. 255) (516 * m) m ys zs →
     Pixels-to (λ k. clear) (517 * m) m zs us → Blank-made w h xs us s
-blanked w h m s xs ys zs us long e new so to up =
+blanked w h m s xs ys zs us e new so to up =
     let n : m ≡ s .wide * s .high = e ∙ sym (ap₂ _*_ (new .wide-is) (new .high-is)) in
     let first : (q : ℕ) → q < m → pixel-at us (0 + 4 * q) ≡ clear
     = λ q l. pixel-before _ _ _ zs us (0 + 4 * q) up (omega arith) ∙ pixel-kept _ _ ys zs (0 + 4 * q) (bytes-wrote _ _ _ ys zs to) (inl (omega arith)) ∙ so .written q l in
     let middle : (q : ℕ) → q < m → getD us (516 * m + q) 0 ≡ 255 = λ q l. up .before (516 * m + q) (omega arith) ∙ to .written q l in
     let view-is : Agree (view s us) (blank (s .wide) (s .high))
-    = blank-view s long us (new .one-layer) (new .lowest) (new .own-planes 0 no-entry (omega arith)) (λ q l. first q (omega arith))
+    = blank-view s us (new .one-layer) (new .lowest) (new .own-planes 0 no-entry (omega arith)) (λ q l. first q (omega arith))
       (λ q l. ap (λ k. getD us (516 * k + q) 0) (sym n) ∙ middle q (omega arith)) (λ q l. ap (λ k. pixel-at us (517 * k + 4 * q)) (sym n) ∙ up .written q (omega arith)) in
     record {
       canvas = new;

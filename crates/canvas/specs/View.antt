@@ -50,6 +50,14 @@ view s xs =
       clipboard = λ i j. pixel-at xs (clipboard-at (s .wide * s .high) + 4 * (j * s .wide + i));
     }
 
+-- a size that a page can have, and bytes enough for it
+pub record Room (w h : ℕ) (xs : List ℕ) : Type 0 where
+  pub some-wide : 1 ≤ w
+  pub most-wide : w ≤ 4096
+  pub some-high : 1 ≤ h
+  pub most-high : h ≤ 4096
+  pub enough : 544 * (w * h) ≤ length xs
+
 -- a canvas of one layer, every plane with its own entry
 pub record Fresh-canvas (w h : ℕ) (s : Canvas) : Type 0 where
   pub wide-is : s .wide ≡ w

@@ -1,8 +1,6 @@
 // The blank page: one clear layer, everything selected, a clear clipboard.
-ghost use mathlib.Core.Path.{_≡_};
-ghost use Prim.Native.Nat.{ℕ, _+_, _*_, _<_, _≤_};
-ghost use lib.ListN.{length, getD};
-ghost use Rattle.canvas.specs.View.{fresh, Fresh-canvas, Blank-made};
+ghost use Prim.Native.Nat.{_≤_};
+ghost use Rattle.canvas.specs.View.{Room, Fresh-canvas, Blank-made};
 use crate::layout::area;
 use crate::state::Canvas;
 use crate::state::Layer;
@@ -25,7 +23,7 @@ fn new_canvas(wide: usize, high: usize) -> Canvas
 
 // The blank page, whatever the memory held.
 pub fn make_blank(wide: usize, high: usize, tiles: &mut [u8]) -> Canvas
-    requires { ⌜ 1 ≤ wide ⌝ ∗ ⌜ wide ≤ 4096 ⌝ ∗ ⌜ 1 ≤ high ⌝ ∗ ⌜ high ≤ 4096 ⌝ ∗ ⌜ 544 * (wide * high) ≤ length (now tiles) ⌝ }
+    requires { ⌜ Room wide high (now tiles) ⌝ }
     ensures { λ r. ⌜ Blank-made wide high (now (tiles .entry)) (now (tiles .exit)) r ⌝ }
 {
     let n = area(wide, high);

@@ -1,7 +1,7 @@
 // The canvas: its size, and its layers from below. Pixels lie in lent memory; entries past `count` hold the spare planes.
 ghost use Prim.Native.Nat.{ℕ, _<_, _≤_};
 ghost use mathlib.Core.Path.{_≡_};
-ghost use lib.ListN.{getD};
+ghost use lib.ListN.{length, getD};
 ghost use Rattle.canvas.specs.declared.state.Layer.{Layer};
 use pixel::modes::Mode;
 
@@ -22,6 +22,7 @@ pub struct Canvas {
     pub count: usize,
     pub active: usize,
     ghost sized: { (1 ≤ wide) × (wide ≤ 4096) × (1 ≤ high) × (high ≤ 4096) },
+    ghost full: { length layers ≡ 64 },
     ghost counted: { (active < count) × (count ≤ 64) },
     ghost planes: { (k : ℕ) (d : Layer) → k < 64 → getD layers k d .plane < 64 },
     ghost distinct: { (p : ℕ × ℕ × Layer) → (p .0 < 64) × (p .1 < 64) × (getD layers (p .0) (p .2) .plane ≡ getD layers (p .1) (p .2) .plane) → p .0 ≡ p .1 },

@@ -5,4 +5,4 @@ use Rattle.canvas.proofs.Views.{bytes-reselected}
 use Rattle.canvas.proofs.state.Canvas.select_all.Needs as need
 
 pub returns : need.returns
-returns c = bytes-reselected (c .args .self .now) (omega arith) select-all (c .area-n .result) _ _ (λ k. 255) (λ i j. 255) refl (c .area-n .ensures .is) (c .set-bytes .ensures) (λ i j iw jh. refl)
+returns c = bytes-reselected (c .args .self .now) select-all (c .area-n .result) _ _ (λ k. 255) (λ i j. 255) refl (c .area-n .ensures .is) (c .set-bytes .ensures) (λ i j iw jh. refl)

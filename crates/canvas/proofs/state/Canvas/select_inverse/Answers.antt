@@ -10,5 +10,5 @@ pub returns : need.returns
 returns c =
     let s = c .args .self .now in
     let xs = c .args .tiles .now in
-    bytes-reselected s (omega arith) select-inverse (c .area-n .result) _ _ _ (λ i j. 255 - getD xs (516 * (s .wide * s .high) + (j * s .wide + i)) 0) refl (c .area-n .ensures .is) (c .invert-bytes .ensures)
+    bytes-reselected s select-inverse (c .area-n .result) _ _ _ (λ i j. 255 - getD xs (516 * (s .wide * s .high) + (j * s .wide + i)) 0) refl (c .area-n .ensures .is) (c .invert-bytes .ensures)
     (λ i j iw jh. ap (λ n. 255 - getD xs (516 * n + (j * s .wide + i)) 0) (c .area-n .ensures .is))

@@ -1,0 +1,8 @@
+use Rattle.reference.proofs.Onward.{none-other}
+use Rattle.reference.proofs.applying.apply.Needs as need
+
+-- an edit of another kind is not built
+pub returns-in-rest : need.returns-in-rest
+returns-in-rest c =
+    let r = c .in-rest in
+    absurd (none-other (c .args .source .now) (c .args .edit) (c .pre .0) (r .not-SelectAll) (r .not-SelectRect) (r .not-SelectInverse) (r .not-Fill))

@@ -1,0 +1,36 @@
+use native.Mathlib.Omega.{arith}
+use mathlib.Core.Path.{_≡_, ap, ap₂, subst, sym, _∙_}
+use Prim.Native.Nat.{ℕ, _*_, _≤_}
+use lib.ListN.{take, length}
+use lib.Seq.{take-all}
+use Rattle.std.proofs.shelf.Elements.{all-getD}
+use Rattle.page.specs.Edits.{blank, after}
+use Rattle.page.specs.Agree.{Agree}
+use Rattle.canvas.specs.View.{view}
+use Rattle.codec.specs.declared.edits.Edit.{Edit}
+use Rattle.codec.specs.declared.edits.Edit.the-variants.{AddLayer}
+use Rattle.reference.specs.Making.{meanings, Built}
+use Rattle.reference.proofs.Onward.{one-more, replayed}
+use Rattle.reference.proofs.applying.replay.Needs as need
+
+pub loop-k-holds : need.loop-k-holds
+loop-k-holds c = c .make-blank-canvas .ensures .agrees
+
+pub apply-requires : need.apply-requires
+apply-requires c κs =
+    let s = c .make-blank-canvas .result in
+    let new = c .make-blank-canvas .ensures .canvas in
+    let area : s .wide * s .high ≡ c .args .wide * c .args .high = ap₂ _*_ (new .wide-is) (new .high-is) in
+    (all-getD (Built (c .args .source .now)) (c .args .edits .now) (c .loop-k .k) AddLayer (c .loop-k-test .taken) (c .pre .1),
+     omega (arith, area, c .pre .0 .enough, c .make-blank-canvas .ensures .long, c .loop-k .kept .tiles))
+
+pub loop-k-again : need.loop-k-again
+loop-k-again c =
+    one-more (blank (c .args .wide) (c .args .high)) _ _ (c .args .source .now) (c .args .edits .now) (c .loop-k .k) AddLayer (c .loop-k-test .taken) (c .loop-k .inv) (c .apply .ensures .agrees)
+
+pub returns : need.returns
+returns c =
+    let all : take (c .loop-k .k) (c .args .edits .now) ≡ c .args .edits .now = take-all (c .loop-k .k) (c .args .edits .now) (c .loop-k-test .left) in
+    replayed (c .args .wide) (c .args .high) _ _ _ (c .make-blank-canvas .result) (c .make-blank-canvas .ensures .canvas .wide-is) (c .make-blank-canvas .ensures .canvas .high-is)
+    (subst (λ (es : _). Agree (view (c .make-blank-canvas .result) (c .loop-k .tiles)) (after (blank (c .args .wide) (c .args .high)) (meanings (c .args .source .now) es))) all (c .loop-k .inv))
+    (c .loop-k .kept .tiles ∙ c .make-blank-canvas .ensures .long)

@@ -1,0 +1,6 @@
+use mathlib.Core.Path.{_≡_}
+use Rattle.reference.specs.Making.{seen-below}
+use Rattle.reference.proofs.seeing.composite_at.Given as given
+
+abbrev pub Inv-loop-k : given.InvT-loop-k
+Inv-loop-k l = l .seen ≡ seen-below (l .canvas) (l .tiles) (l .k) (l .x) (l .y)

@@ -1,0 +1,50 @@
+-- What the plain engine makes of a list of edits. Assumes nothing.
+use mathlib.Core.Path.{_≡_}
+use mathlib.Core.Bool.{true, cond, _&&_}
+use mathlib.Core.List.{List, map}
+use Prim.Native.Nat.{ℕ, _*_, _<_, _≤_}
+use lib.Dec.{ltb, leb}
+use lib.ListN.{length, take}
+use Rattle.std.specs.declared.option.Option.{Option}
+use Rattle.std.specs.declared.option.Option.the-variants.{Some, None}
+use Rattle.pixel.specs.declared.Pixel.{Pixel}
+use Rattle.pixel.specs.Pixels.{white}
+use Rattle.page.specs.Layers.{composite}
+use Rattle.page.specs.Edits as page
+use Rattle.page.specs.Edits.{Page, edited, blank, after, seen}
+use Rattle.page.specs.Agree.{Agree}
+use Rattle.page.specs.Fits.{kind}
+use Rattle.codec.specs.declared.edits.Edit.{Edit}
+use Rattle.codec.specs.Meaning.{edit-of}
+use Rattle.codec.specs.Kinds.{built}
+use Rattle.canvas.specs.declared.state.Canvas.{Canvas}
+use Rattle.canvas.specs.View.{view, layers-of}
+
+-- what a list of edits means over the bytes that hold their points and numbers
+abbrev pub meanings : List ℕ → List Edit → List page.Edit
+meanings bs es = map (edit-of bs) es
+
+-- an edit of a kind that there is
+abbrev pub Built : List ℕ → Edit → Type 0
+Built bs e = built (kind (edit-of bs e)) ≡ true
+
+-- one edit more
+pub record Applied (s : Canvas) (e : page.Edit) (xs ys : List ℕ) : Type 0 where
+  pub agrees : Agree (view s ys) (edited (view s xs) e)
+  pub long : length ys ≡ length xs
+
+-- everything made anew from the blank page
+pub record Replayed (w h : ℕ) (es : List page.Edit) (xs ys : List ℕ) (s : Canvas) : Type 0 where
+  pub wide-is : s .wide ≡ w
+  pub high-is : s .high ≡ h
+  pub agrees : Agree (view s ys) (after (blank w h) es)
+  pub long : length ys ≡ length xs
+  pub shows : (i j : ℕ) → i < w → j < h → seen (view s ys) i j ≡ seen (after (blank w h) es) i j
+
+-- what is seen of the first k layers at a pixel
+abbrev pub seen-below : Canvas → List ℕ → ℕ → ℕ → ℕ → Pixel
+seen-below s xs k i j = composite (layers-of (s .wide) (s .high) xs (take k (s .layers))) (λ x y. white) i j
+
+-- what is seen at a pixel, of a page that lies wholly in the bytes
+abbrev pub seen-at : Canvas → List ℕ → ℕ → ℕ → Option Pixel
+seen-at s xs i j = cond ((ltb i (s .wide) && ltb j (s .high)) && leb (544 * (s .wide * s .high)) (length xs)) (Some (seen (view s xs) i j)) None

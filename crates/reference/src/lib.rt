@@ -1,0 +1,3 @@
+// The plain engine: every edit in the plainest way, everything made anew from the blank page, no tiles.
+pub mod applying;
+pub mod seeing;
