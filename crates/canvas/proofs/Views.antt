@@ -99,7 +99,7 @@ module _ (s : Canvas) where
       = record { same-mode = sym (ap (λ (l : Layer). l .mode) at); same-opacity = sym (ap (λ (l : Layer). l .opacity) at); same-visible = sym (ap (λ (l : Layer). l .visible) at); same-pixels = is } in
       let other : (k : ℕ) → k < s .count → k ≢ a → Layer-agree w h (layer-of w h ys (entry k)) (layer-of w h xs (entry k))
       = λ k l ne. entry-agree xs ys k (λ i j iw jh. pixel-kept _ _ xs ys _ so
-          (planes-apart n (entry k .plane) (entry a .plane) (j * w + i) (λ e. ne (s .distinct (k, a, no-entry) (omega (arith, s .full, s .counted .1), omega (arith, s .counted), e))) (omega (arith, mul-add-lt j w i h jh iw)))) in
+      (planes-apart n (entry k .plane) (entry a .plane) (j * w + i) (λ e. ne (s .distinct (k, a, no-entry) (omega (arith, s .full, s .counted .1), omega (arith, s .counted), e))) (omega (arith, mul-add-lt j w i h jh iw)))) in
       record {
         same-wide = refl;
         same-high = refl;
@@ -110,7 +110,7 @@ module _ (s : Canvas) where
             subst (λ (b : Layer). Layer-agree w h b (getD (set (view s xs .layers) a new) k clear-layer)) (sym (view-layer ys k lt))
             (elim (cases-eq k a) [
               | inl e ↦ subst (λ (m : ℕ). Layer-agree w h (layer-of w h ys (entry m)) (getD (set (view s xs .layers) a new) m clear-layer)) (sym e)
-                (subst (λ (b : Layer). Layer-agree w h (layer-of w h ys (entry a)) b) (sym (getD-set-same (view s xs .layers) a new clear-layer (omega (arith, view-count xs, s .counted)))) here)
+                  (subst (λ (b : Layer). Layer-agree w h (layer-of w h ys (entry a)) b) (sym (getD-set-same (view s xs .layers) a new clear-layer (omega (arith, view-count xs, s .counted)))) here)
               | inr ne ↦ subst (λ (b : Layer). Layer-agree w h (layer-of w h ys (entry k)) b) (sym (getD-set-other (view s xs .layers) a k new clear-layer ne ∙ view-layer xs k lt)) (other k lt ne)
             ]));
         same-selected = λ i j iw jh. so .after _ (omega arith);
@@ -137,7 +137,7 @@ module _ (s : Canvas) where
       let base = plane-at n (entry (s .active) .plane) in
       let to : Pixels-to (λ k. pixel-lerp (getD xs (516 * n + k) 0) p (pixel-at xs (base + 4 * k))) base n xs ys
       = subst (λ (r : ℕ). Pixels-to (λ k. pixel-lerp (getD xs (516 * n + k) 0) p (pixel-at xs (r + 4 * k))) r n xs ys) b
-        (subst (λ (k : ℕ). Pixels-to (λ q. pixel-lerp (getD xs (516 * k + q) 0) p (pixel-at xs (at + 4 * q))) at k xs ys) a so) in
+      (subst (λ (k : ℕ). Pixels-to (λ q. pixel-lerp (getD xs (516 * k + q) 0) p (pixel-at xs (at + 4 * q))) at k xs ys) a so) in
       let wrote = pixels-wrote _ base n xs ys to in
       record {
         agrees = plane-view xs ys _ wrote (λ i j iw jh. to .written (j * w + i) (mul-add-lt j w i h jh iw)
@@ -157,8 +157,12 @@ module _ (s : Canvas) where
             (λ k l. let zero : k ≡ 0 = omega (arith, view-count ys) in
             subst (λ (m : ℕ). Layer-agree w h (layer (view s ys) m) (getD (clear-layer ∷ []) m clear-layer)) (sym zero)
             (subst (λ (b : Layer). Layer-agree w h b clear-layer) (sym (view-layer ys 0 (omega arith) ∙ ap (layer-of w h ys) is))
-            (record { same-mode = refl; same-opacity = refl; same-visible = refl;
-              same-pixels = λ i j iw jh. let at : plane-at n 0 + 4 * (j * w + i) ≡ 0 + 4 * (j * w + i) = omega arith in ap (pixel-at ys) at ∙ pixels (j * w + i) (mul-add-lt j w i h jh iw) })));
+            (record {
+              same-mode = refl;
+              same-opacity = refl;
+              same-visible = refl;
+              same-pixels = λ i j iw jh. let at : plane-at n 0 + 4 * (j * w + i) ≡ 0 + 4 * (j * w + i) = omega arith in ap (pixel-at ys) at ∙ pixels (j * w + i) (mul-add-lt j w i h jh iw);
+            })));
         same-selected = λ i j iw jh. all (j * w + i) (mul-add-lt j w i h jh iw);
         same-clipboard = λ i j iw jh. copied (j * w + i) (mul-add-lt j w i h jh iw);
       }
@@ -173,7 +177,7 @@ blanked w h m s xs ys zs us e new so to up =
     let middle : (q : ℕ) → q < m → getD us (516 * m + q) 0 ≡ 255 = λ q l. up .before (516 * m + q) (omega arith) ∙ to .written q l in
     let view-is : Agree (view s us) (blank (s .wide) (s .high))
     = blank-view s us (new .one-layer) (new .lowest) (new .own-planes 0 no-entry (omega arith)) (λ q l. first q (omega arith))
-      (λ q l. ap (λ k. getD us (516 * k + q) 0) (sym n) ∙ middle q (omega arith)) (λ q l. ap (λ k. pixel-at us (517 * k + 4 * q)) (sym n) ∙ up .written q (omega arith)) in
+    (λ q l. ap (λ k. getD us (516 * k + q) 0) (sym n) ∙ middle q (omega arith)) (λ q l. ap (λ k. pixel-at us (517 * k + 4 * q)) (sym n) ∙ up .written q (omega arith)) in
     record {
       canvas = new;
       agrees = subst₂ (λ a b. Agree (view s us) (blank a b)) (new .wide-is) (new .high-is) view-is;

@@ -83,5 +83,5 @@ pub record Reselected (s : Canvas) (e : Edit) (xs ys : List ℕ) : Type 0 where
 pub record Plane-edited (s : Canvas) (e : Edit) (xs ys : List ℕ) : Type 0 where
   pub agrees : Agree (view s ys) (edited (view s xs) e)
   pub wrote :
-    Wrote (plane-at (s .wide * s .high) (getD (s .layers) (s .active) no-entry .plane))
-    (plane-at (s .wide * s .high) (getD (s .layers) (s .active) no-entry .plane) + 4 * (s .wide * s .high)) xs ys
+      Wrote (plane-at (s .wide * s .high) (getD (s .layers) (s .active) no-entry .plane))
+      (plane-at (s .wide * s .high) (getD (s .layers) (s .active) no-entry .plane) + 4 * (s .wide * s .high)) xs ys

@@ -14,11 +14,27 @@ fn new_canvas(wide: usize, high: usize) -> Canvas
     requires { ⌜ 1 ≤ wide ⌝ ∗ ⌜ wide ≤ 4096 ⌝ ∗ ⌜ 1 ≤ high ⌝ ∗ ⌜ high ≤ 4096 ⌝ }
     ensures { λ r. ⌜ Fresh-canvas wide high r ⌝ }
 {
-    let mut layers = [Layer { plane: 0, mode: Mode::Normal, opacity: 255, visible: true }; 64];
+    let mut layers = [Layer {
+        plane: 0,
+        mode: Mode::Normal,
+        opacity: 255,
+        visible: true,
+    }; 64];
     for k in 0..64 {
-        layers[k] = Layer { plane: k as u8, mode: Mode::Normal, opacity: 255, visible: true };
+        layers[k] = Layer {
+            plane: k as u8,
+            mode: Mode::Normal,
+            opacity: 255,
+            visible: true,
+        };
     }
-    Canvas { wide, high, layers, count: 1, active: 0 }
+    Canvas {
+        wide,
+        high,
+        layers,
+        count: 1,
+        active: 0,
+    }
 }
 
 // The blank page, whatever the memory held.

@@ -11,7 +11,7 @@ pub fn area(wide: usize, high: usize) -> usize
     ensures is { λ r. ⌜ r ≡ wide * high ⌝ }
     ensures most { λ r. ⌜ r ≤ 16777216 ⌝ }
 {
-    wide * high
+    high * wide
 }
 
 impl Canvas {

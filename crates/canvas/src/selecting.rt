@@ -32,7 +32,10 @@ fn span_of(rect: Rect, wide: usize, j: usize) -> Span
     if j < top || j >= top + rect.height as usize {
         return Span { first, last: first };
     }
-    Span { first, last: right.min(wide) }
+    Span {
+        first,
+        last: right.min(wide),
+    }
 }
 
 // Selects a span of a row and nothing else of it.

@@ -16,7 +16,6 @@ use Rattle.pixel.specs.Channels.{Channel}
 use Rattle.pixel.specs.Pixels.{Pixel-fits, channel-of}
 use Rattle.pixel.proofs.Bounds.{capped}
 
-
 pub row-sum-most : (f : ℕ → ℕ) (m a n : ℕ) → ((k : ℕ) → f k ≤ m) → row-sum f a n ≤ m * n
 row-sum-most f m a zero h = omega arith
 row-sum-most f m a (suc n) h = omega (arith, h a, row-sum-most f m (suc a) n h)

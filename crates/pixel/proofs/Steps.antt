@@ -48,37 +48,39 @@ pixel-put-same xs at p h =
     let lc : at + 2 < length (set (set xs at (p .red)) (at + 1) (p .green)) = simp length-set (omega arith) in
     let ld : at + 3 < length (set (set (set xs at (p .red)) (at + 1) (p .green)) (at + 2) (p .blue)) = simp length-set (omega arith) in
     same-pixel (pixel-at (put-pixel xs at p) at) p
-      (rw (getD-set-other, getD-set-other, getD-set-other, getD-set-same))
-      (rw (getD-set-other, getD-set-other, getD-set-same))
-      (rw (getD-set-other, getD-set-same))
-      (rw getD-set-same)
+    (rw (getD-set-other, getD-set-other, getD-set-other, getD-set-same))
+    (rw (getD-set-other, getD-set-other, getD-set-same))
+    (rw (getD-set-other, getD-set-same))
+    (rw getD-set-same)
 
 pub pixel-put-other : (xs : List ℕ) (at : ℕ) (p : Pixel) (q : ℕ) → (q + 4 ≤ at) ⊎ (at + 4 ≤ q) → pixel-at (put-pixel xs at p) q ≡ pixel-at xs q
 pixel-put-other xs at p q h =
     let out : (m : ℕ) → m < 4 → (q + m < at) ⊎ (at + 4 ≤ q + m) = λ m l. elim h [ inl u ↦ inl (omega arith) | inr u ↦ inr (omega arith) ] in
     let out0 : (q < at) ⊎ (at + 4 ≤ q) = elim h [ inl u ↦ inl (omega arith) | inr u ↦ inr (omega arith) ] in
     same-pixel (pixel-at (put-pixel xs at p) q) (pixel-at xs q) (getD-put-other xs at p q out0) (getD-put-other xs at p (q + 1) (out 1 (omega arith)))
-      (getD-put-other xs at p (q + 2) (out 2 (omega arith))) (getD-put-other xs at p (q + 3) (out 3 (omega arith)))
+    (getD-put-other xs at p (q + 2) (out 2 (omega arith))) (getD-put-other xs at p (q + 3) (out 3 (omega arith)))
 
 pub pixels-none : (f : ℕ → Pixel) (at : ℕ) (xs : List ℕ) → Pixels-to f at 0 xs xs
 pixels-none f at xs = record { long = refl; written = λ k h. absurd (omega arith); before = λ q h. refl; after = λ q h. refl }
 
 pub pixels-more : (f : ℕ → Pixel) (at k : ℕ) (xs ys : List ℕ) (p : Pixel) → at + 4 * (k + 1) ≤ length ys → p ≡ f k → Pixels-to f at k xs ys → Pixels-to f at (k + 1) xs (put-pixel ys (at + 4 * k) p)
 pixels-more f at k xs ys p long is so = record {
-    long = length-put ys (at + 4 * k) p ∙ so .long;
-    written = below-more (λ m. pixel-at (put-pixel ys (at + 4 * k) p) (at + 4 * m) ≡ f m) k (λ m h. pixel-put-other ys (at + 4 * k) p (at + 4 * m) (inl (omega arith)) ∙ so .written m h) (pixel-put-same ys (at + 4 * k) p (omega arith) ∙ is);
-    before = λ q h. getD-put-other ys (at + 4 * k) p q (inl (omega arith)) ∙ so .before q h;
-    after = λ q h. getD-put-other ys (at + 4 * k) p q (inr (omega arith)) ∙ so .after q (omega arith) }
+  long = length-put ys (at + 4 * k) p ∙ so .long;
+  written = below-more (λ m. pixel-at (put-pixel ys (at + 4 * k) p) (at + 4 * m) ≡ f m) k (λ m h. pixel-put-other ys (at + 4 * k) p (at + 4 * m) (inl (omega arith)) ∙ so .written m h) (pixel-put-same ys (at + 4 * k) p (omega arith) ∙ is);
+  before = λ q h. getD-put-other ys (at + 4 * k) p q (inl (omega arith)) ∙ so .before q h;
+  after = λ q h. getD-put-other ys (at + 4 * k) p q (inr (omega arith)) ∙ so .after q (omega arith);
+}
 
 pub bytes-none : (f : ℕ → ℕ) (at : ℕ) (xs : List ℕ) → Bytes-to f at 0 xs xs
 bytes-none f at xs = record { long = refl; written = λ k h. absurd (omega arith); before = λ q h. refl; after = λ q h. refl }
 
 pub bytes-more : (f : ℕ → ℕ) (at k : ℕ) (xs ys : List ℕ) (v : ℕ) → at + (k + 1) ≤ length ys → v ≡ f k → Bytes-to f at k xs ys → Bytes-to f at (k + 1) xs (set ys (at + k) v)
 bytes-more f at k xs ys v long is so = record {
-    long = length-set ys (at + k) v ∙ so .long;
-    written = below-more (λ m. getD (set ys (at + k) v) (at + m) 0 ≡ f m) k (λ m h. getD-set-other ys (at + k) (at + m) v 0 (λ e. omega arith) ∙ so .written m h) (getD-set-same ys (at + k) v 0 (omega arith) ∙ is);
-    before = λ q h. getD-set-other ys (at + k) q v 0 (λ e. omega arith) ∙ so .before q h;
-    after = λ q h. getD-set-other ys (at + k) q v 0 (λ e. omega arith) ∙ so .after q (omega arith) }
+  long = length-set ys (at + k) v ∙ so .long;
+  written = below-more (λ m. getD (set ys (at + k) v) (at + m) 0 ≡ f m) k (λ m h. getD-set-other ys (at + k) (at + m) v 0 (λ e. omega arith) ∙ so .written m h) (getD-set-same ys (at + k) v 0 (omega arith) ∙ is);
+  before = λ q h. getD-set-other ys (at + k) q v 0 (λ e. omega arith) ∙ so .before q h;
+  after = λ q h. getD-set-other ys (at + k) q v 0 (λ e. omega arith) ∙ so .after q (omega arith);
+}
 
 -- the same after a call that writes the pixel
 pub pixels-step : (f : ℕ → Pixel) (at k : ℕ) (xs ys zs : List ℕ) (p : Pixel) → at + 4 * (k + 1) ≤ length ys → zs ≡ put-pixel ys (at + 4 * k) p → p ≡ f k → Pixels-to f at k xs ys → Pixels-to f at (k + 1) xs zs

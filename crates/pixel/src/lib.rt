@@ -13,6 +13,16 @@ pub struct Pixel {
     pub alpha: u8,
 }
 
-pub const CLEAR: Pixel = Pixel { red: 0, green: 0, blue: 0, alpha: 0 };
+pub const CLEAR: Pixel = Pixel {
+    red: 0,
+    green: 0,
+    blue: 0,
+    alpha: 0,
+};
 
-pub const WHITE: Pixel = Pixel { red: 255, green: 255, blue: 255, alpha: 255 };
+pub const WHITE: Pixel = Pixel {
+    red: 255,
+    green: 255,
+    blue: 255,
+    alpha: 255,
+};

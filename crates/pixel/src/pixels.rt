@@ -58,7 +58,12 @@ pub fn read_pixel(bytes: &[u8], at: usize) -> Pixel
     requires { ⌜ at + 4 ≤ length (now bytes) ⌝ }
     ensures { λ r. ⌜ r ≡ pixel-at (now (bytes .entry)) at ⌝ }
 {
-    Pixel { red: bytes[at], green: bytes[at + 1], blue: bytes[at + 2], alpha: bytes[at + 3] }
+    Pixel {
+        red: bytes[at],
+        green: bytes[at + 1],
+        blue: bytes[at + 2],
+        alpha: bytes[at + 3],
+    }
 }
 
 // Writes those four bytes, and no others.

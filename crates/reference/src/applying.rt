@@ -19,7 +19,20 @@ pub fn apply(canvas: &Canvas, tiles: &mut [u8], edit: Edit, source: &[u8])
 {
     match edit {
         Edit::SelectAll => canvas.select_all(tiles),
-        Edit::SelectRect { x, y, width, height } => canvas.select_rect(tiles, Rect { x, y, width, height }),
+        Edit::SelectRect {
+            x,
+            y,
+            width,
+            height,
+        } => canvas.select_rect(
+            tiles,
+            Rect {
+                x,
+                y,
+                width,
+                height,
+            },
+        ),
         Edit::SelectInverse => canvas.select_inverse(tiles),
         Edit::Fill(p) => canvas.fill_selected(tiles, p),
         _ => {}

@@ -20,9 +20,10 @@ pub apply-requires : need.apply-requires
 apply-requires c κs =
     let s = c .make-blank-canvas .result in
     let new = c .make-blank-canvas .ensures .canvas in
-    let area : s .wide * s .high ≡ c .args .wide * c .args .high = ap₂ _*_ (new .wide-is) (new .high-is) in
-    (all-getD (Built (c .args .source .now)) (c .args .edits .now) (c .loop-k .k) AddLayer (c .loop-k-test .taken) (c .pre .1),
-     omega (arith, area, c .pre .0 .enough, c .make-blank-canvas .ensures .long, c .loop-k .kept .tiles))
+    let area : s .wide * s .high ≡ c .args .wide * c .args .high = ap₂ _*_ (new .wide-is) (new .high-is) in (
+      all-getD (Built (c .args .source .now)) (c .args .edits .now) (c .loop-k .k) AddLayer (c .loop-k-test .taken) (c .pre .1),
+      omega (arith, area, c .pre .0 .enough, c .make-blank-canvas .ensures .long, c .loop-k .kept .tiles),
+    )
 
 pub loop-k-again : need.loop-k-again
 loop-k-again c =
