@@ -1,7 +1,7 @@
 -- What the code's values mean over the bytes that they were read from. Assumes nothing.
 use mathlib.Core.List.{List, [], _∷_}
-use Prim.Native.Nat.{ℕ, zero, suc, _+_, _*_}
-use lib.ListN.{getD, take, drop}
+use Prim.Native.Nat.{ℕ, zero, suc, _+_, _*_, _≤_, _<_}
+use lib.ListN.{length, getD, take, drop}
 use Rattle.page.specs.Edits as page
 use Rattle.page.specs.Edits.{add-layer, drop-layer, choose-layer, raise-layer, set-mode, set-opacity, set-visible, merge-down, select-all, select-rect, select-similar, select-inverse, fill, stroke, apply-filter, copy, paste}
 use Rattle.page.specs.Filters as filters
@@ -53,3 +53,38 @@ abbrev pub turn-of : List ℕ → Turn → history.Turn
 turn-of bs (Does e) = does (edit-of bs e)
 turn-of bs Undo = undo
 turn-of bs Redo = redo
+
+-- the bytes hold the points of a stroke and the numbers of a curve
+abbrev pub Filter-held : List ℕ → Filter → Type 0
+Filter-held bs Invert = Unit {0}
+Filter-held bs (Curve start) = start + 256 ≤ length bs
+Filter-held bs (BoxBlur r) = Unit {0}
+Filter-held bs Edges = Unit {0}
+
+abbrev pub Held : List ℕ → Edit → Type 0
+Held bs AddLayer = Unit {0}
+Held bs DropLayer = Unit {0}
+Held bs (ChooseLayer k) = Unit {0}
+Held bs RaiseLayer = Unit {0}
+Held bs (SetMode m) = Unit {0}
+Held bs (SetOpacity a) = Unit {0}
+Held bs (SetVisible b) = Unit {0}
+Held bs MergeDown = Unit {0}
+Held bs SelectAll = Unit {0}
+Held bs (SelectRect x y w h) = Unit {0}
+Held bs (SelectSimilar n x y) = Unit {0}
+Held bs SelectInverse = Unit {0}
+Held bs (Fill d) = Unit {0}
+Held bs (Stroke d r start count) = start + 4 * count ≤ length bs
+Held bs (ApplyFilter f) = Filter-held bs f
+Held bs Copy = Unit {0}
+Held bs (Paste x y) = Unit {0}
+
+abbrev pub Turn-held : List ℕ → Turn → Type 0
+Turn-held bs (Does e) = Held bs e
+Turn-held bs Undo = Unit {0}
+Turn-held bs Redo = Unit {0}
+
+-- each is a byte, as in every slice of u8
+abbrev pub Bytes : List ℕ → Type 0
+Bytes bs = (k : ℕ) → getD bs k 0 < 256

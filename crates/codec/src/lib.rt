@@ -1,2 +1,5 @@
 // Turns and files in bytes. Strokes and curves are held by where their points and numbers start in the bytes.
 pub mod edits;
+pub mod kinds;
+pub mod laws;
+pub mod read;

@@ -1,1 +1,3 @@
 mod Onward
+mod Listing
+mod Adding

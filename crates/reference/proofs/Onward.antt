@@ -14,13 +14,15 @@ use Rattle.page.proofs.Agreeing.{agree-trans, edits-agree, seen-agree}
 use Rattle.codec.specs.declared.edits.Edit.{Edit}
 use Rattle.codec.specs.declared.edits.Edit.the-variants.{AddLayer, DropLayer, ChooseLayer, RaiseLayer, SetMode, SetOpacity, SetVisible, MergeDown, SelectAll, SelectRect, SelectSimilar, SelectInverse, Fill, Stroke, ApplyFilter, Copy, Paste}
 use Rattle.codec.specs.Meaning.{edit-of}
+use Rattle.codec.specs.Kinds.{built}
 use Rattle.canvas.specs.declared.state.Canvas.{Canvas}
 use Rattle.canvas.specs.View.{view}
-use Rattle.reference.specs.Making.{meanings, Built, Replayed}
+use Rattle.reference.specs.Lists.{meanings, Built}
+use Rattle.reference.specs.Making.{Replayed}
 
 -- an edit of none of the kinds that there are is not built
 pub none-other : (bs : List ℕ) (e : Edit) → Built bs e → (e ≡ SelectAll → ⊥) → ((x y w h : ℕ) → e ≡ SelectRect x y w h → ⊥) → (e ≡ SelectInverse → ⊥) → ((p : Pixel) → e ≡ Fill p → ⊥) → ⊥
-unfolding kind
+unfolding kind built
 none-other bs AddLayer b s r i f = false≢true b
 none-other bs DropLayer b s r i f = false≢true b
 none-other bs (ChooseLayer k) b s r i f = false≢true b

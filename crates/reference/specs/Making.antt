@@ -1,7 +1,7 @@
 -- What the plain engine makes of a list of edits. Assumes nothing.
 use mathlib.Core.Path.{_≡_}
-use mathlib.Core.Bool.{true, cond, _&&_}
-use mathlib.Core.List.{List, map}
+use mathlib.Core.Bool.{cond, _&&_}
+use mathlib.Core.List.{List}
 use Prim.Native.Nat.{ℕ, _*_, _<_, _≤_}
 use lib.Dec.{ltb, leb}
 use lib.ListN.{length, take}
@@ -13,20 +13,8 @@ use Rattle.page.specs.Layers.{composite}
 use Rattle.page.specs.Edits as page
 use Rattle.page.specs.Edits.{Page, edited, blank, after, seen}
 use Rattle.page.specs.Agree.{Agree}
-use Rattle.page.specs.Fits.{kind}
-use Rattle.codec.specs.declared.edits.Edit.{Edit}
-use Rattle.codec.specs.Meaning.{edit-of}
-use Rattle.codec.specs.Kinds.{built}
 use Rattle.canvas.specs.declared.state.Canvas.{Canvas}
 use Rattle.canvas.specs.View.{view, layers-of}
-
--- what a list of edits means over the bytes that hold their points and numbers
-abbrev pub meanings : List ℕ → List Edit → List page.Edit
-meanings bs es = map (edit-of bs) es
-
--- an edit of a kind that there is
-abbrev pub Built : List ℕ → Edit → Type 0
-Built bs e = built (kind (edit-of bs e)) ≡ true
 
 -- one edit more
 pub record Applied (s : Canvas) (e : page.Edit) (xs ys : List ℕ) : Type 0 where

@@ -1,3 +1,5 @@
 // The plain engine: every edit in the plainest way, everything made anew from the blank page, no tiles.
 pub mod applying;
+pub mod engine;
 pub mod seeing;
+pub mod state;

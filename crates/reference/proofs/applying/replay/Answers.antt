@@ -9,7 +9,7 @@ use Rattle.page.specs.Agree.{Agree}
 use Rattle.canvas.specs.View.{view}
 use Rattle.codec.specs.declared.edits.Edit.{Edit}
 use Rattle.codec.specs.declared.edits.Edit.the-variants.{AddLayer}
-use Rattle.reference.specs.Making.{meanings, Built}
+use Rattle.reference.specs.Lists.{meanings, Built}
 use Rattle.reference.proofs.Onward.{one-more, replayed}
 use Rattle.reference.proofs.applying.replay.Needs as need
 

@@ -3,7 +3,7 @@ use lib.ListN.{length, take}
 use Rattle.page.specs.Edits.{blank, after}
 use Rattle.page.specs.Agree.{Agree}
 use Rattle.canvas.specs.View.{view}
-use Rattle.reference.specs.Making.{meanings}
+use Rattle.reference.specs.Lists.{meanings}
 use Rattle.reference.proofs.applying.replay.Given as given
 
 -- the page is what the first k edits make of the blank one

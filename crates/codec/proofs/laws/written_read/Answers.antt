@@ -1,0 +1,6 @@
+use Rattle.codec.proofs.Complete.{written-read}
+use Rattle.codec.proofs.Means.{written-turn-read}
+use Rattle.codec.proofs.laws.written_read.Needs as need
+
+pub returns : need.returns
+returns c = record { edits = written-read; turns = written-turn-read }
