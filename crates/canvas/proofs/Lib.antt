@@ -1,3 +1,4 @@
 pub mod Views
 pub mod Layering
 mod Rowing
+mod Unbuilt

@@ -47,7 +47,7 @@ module _ (bs : List ℕ) where
 
   -- a head that stands
   head-end : (at k : ℕ) → getD bs at 0 ≡ k → k ≤ 16 → at + 1 ≤ length bs → at + getD heads k 0 ≤ length bs → end-of bs at ≡ body-end bs at k
-  head-end at k is le one all = 
+  head-end at k is le one all =
       rw is (cond-true _ _ _ (le-leb (at + 1) (length bs) one) ∙ (cond-false _ _ _ (le-ltb 16 k le) ∙ cond-true _ _ _ (le-leb (at + getD heads k 0) (length bs) all)))
 
   edit-is : (at k : ℕ) (e : page.Edit) → getD bs at 0 ≡ k → edit-of bs (edit-by bs at k) ≡ e → edit-of bs (edit-at bs at) ≡ e
@@ -121,10 +121,11 @@ written-read bs rest at (fill p) fits d =
     (head-end bs at 12 is (omega arith) (omega arith) r, edit-is bs at 12 _ is (ap fill (pixel-is bs (at + 1) p _ (on bs at 1 _ d))))
 written-read bs rest at (stroke p r ats) fits d =
     let h = room bs at (written (stroke p r ats)) rest d (omega arith) in let is = byte-is bs at 13 _ d in let c = two-is bs (at + 6) (length ats) _ (on bs at 6 _ d) in
-    let size : length (written (stroke p r ats)) ≡ 8 + 4 * length ats = omega (arith, length-points ats) in
-    (head-end bs at 13 is (omega arith) (omega arith) (omega arith)
-       ∙ rw (c, size) (cond-false _ _ _ (le-ltb 1024 (length ats) (fits .2)) ∙ cond-true _ _ _ (le-leb (at + (8 + 4 * length ats)) (length bs) (omega arith))),
-     edit-is bs at 13 _ is (rw (c, pixel-is bs (at + 1) p _ (on bs at 1 _ d), byte-is bs (at + 5) r _ (on bs at 5 _ d), points-is bs ats (at + 8) rest (on bs at 8 _ d))))
+    let size : length (written (stroke p r ats)) ≡ 8 + 4 * length ats = omega (arith, length-points ats) in (
+      head-end bs at 13 is (omega arith) (omega arith) (omega arith)
+          ∙ rw (c, size) (cond-false _ _ _ (le-ltb 1024 (length ats) (fits .2)) ∙ cond-true _ _ _ (le-leb (at + (8 + 4 * length ats)) (length bs) (omega arith))),
+      edit-is bs at 13 _ is (rw (c, pixel-is bs (at + 1) p _ (on bs at 1 _ d), byte-is bs (at + 5) r _ (on bs at 5 _ d), points-is bs ats (at + 8) rest (on bs at 8 _ d))),
+    )
 written-read bs rest at (apply-filter f) fits d =
     let is = byte-is bs at 14 _ d in let f-is = on bs at 1 _ d in let h = room bs at (written (apply-filter f)) rest d (omega arith) in
     let long : 1 ≤ length (filter-written f) = filter-long f in

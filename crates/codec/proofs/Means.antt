@@ -125,14 +125,18 @@ module _ (bs : List ℕ) (fit : Bytes bs) where
 
   -- a turn that ends at n: all of the bytes, or there is no turn that is all of them
   whole-means :
-    (t : Turn) (n : ℕ) → bs ≡ written-turn (turn-of bs t) ++ drop n bs → Turn-fits (turn-of bs t) → Turn-built (turn-of bs t) → Turn-held bs t →
-    ((s : history.Turn) → Turn-fits s → bs ≡ written-turn s → n ≡ length bs) → Turn-read bs None (whole-turn bs t n)
+      (t : Turn) (n : ℕ) → bs ≡ written-turn (turn-of bs t) ++ drop n bs → Turn-fits (turn-of bs t) → Turn-built (turn-of bs t) → Turn-held bs t →
+      ((s : history.Turn) → Turn-fits s → bs ≡ written-turn s → n ≡ length bs) → Turn-read bs None (whole-turn bs t n)
   whole-means t n stands fits built held ends =
       cond-both (ltb n (length bs)) _ _ (Turn-read bs None)
-        (λ h. inr (λ s f e. absurd (omega (arith, ltb-true n (length bs) h, ends s f e))))
-        (λ h. record {
-          is = stands ∙ (ap (λ l. written-turn (turn-of bs t) ++ l) (drop-all n bs (ltb-false n (length bs) h)) ∙ append-nil (written-turn (turn-of bs t)));
-          fits = fits; is-built = built; held = held; free = refl })
+      (λ h. inr (λ s f e. absurd (omega (arith, ltb-true n (length bs) h, ends s f e))))
+      (λ h. record {
+        is = stands ∙ (ap (λ l. written-turn (turn-of bs t) ++ l) (drop-all n bs (ltb-false n (length bs) h)) ∙ append-nil (written-turn (turn-of bs t)));
+        fits = fits;
+        is-built = built;
+        held = held;
+        free = refl;
+      })
 
   first : (k : ℕ) → getD bs 0 0 ≡ suc k → bs ≡ suc k ∷ drop 1 bs
   first k e = cons bs e
@@ -189,12 +193,14 @@ module _ (bs : List ℕ) (fit : Bytes bs) where
 
     refused-means : (against : Option Refusal) (f : Refusal) → taken-end bs 0 against ≡ Err f → Refused bs against f
     refused-means against f e = elim (cases-bool (leb (0 + 1) (length bs))) [
-        inr few ↦ empty-means against f (omega (arith, leb-false (0 + 1) (length bs) few))
+      | inr few ↦ empty-means against f (omega (arith, leb-false (0 + 1) (length bs) few))
       | inl one ↦
-        let a : cond (built (getD bs 0 0)) (unless against (end-of bs 0)) (Err (NoKind 0)) ≡ Err f = sym (cond-true _ _ _ one) ∙ e in
-        elim (cases-bool (built (getD bs 0 0))) [
-          inl b ↦ free-means against f (sym (cond-true _ _ _ b) ∙ a)
-        | inr b ↦ let same : _≡_ {A = End} (Err (NoKind 0)) (Err f) = sym (cond-false _ _ _ b) ∙ a in unbuilt-means against f b (cc) ] ]
+          let a : cond (built (getD bs 0 0)) (unless against (end-of bs 0)) (Err (NoKind 0)) ≡ Err f = sym (cond-true _ _ _ one) ∙ e in
+          elim (cases-bool (built (getD bs 0 0))) [
+            | inl b ↦ free-means against f (sym (cond-true _ _ _ b) ∙ a)
+            | inr b ↦ let same : _≡_ {A = End} (Err (NoKind 0)) (Err f) = sym (cond-false _ _ _ b) ∙ a in unbuilt-means against f b (cc)
+          ]
+    ]
 
     does-means : (against : Option Refusal) (x : End) → taken-end bs 0 against ≡ x → Turn-read bs against (whole-edit bs x)
     does-means against (Err f) e = refused-means against f e
@@ -203,16 +209,16 @@ module _ (bs : List ℕ) (fit : Bytes bs) where
         let r = reads-written bs 0 n fit (t .end) in
         let P : Option Refusal → Type 0 = λ a. Turn-read bs a (whole-turn bs (Does (edit-at bs 0)) n) in
         subst P (sym (t .free))
-          (whole-means (Does (edit-at bs 0)) n (r .0) (r .1) (ap built (sym (kind-edit (edit-of bs (edit-at bs 0)) (drop n bs) (r .0))) ∙ t .is-built) (r .3)
-            (edit-only (n ≡ length bs) (λ d f h. same-ok n (length bs) (sym (t .end) ∙ is-edit d f h))))
+        (whole-means (Does (edit-at bs 0)) n (r .0) (r .1) (ap built (sym (kind-edit (edit-of bs (edit-at bs 0)) (drop n bs) (r .0))) ∙ t .is-built) (r .3)
+        (edit-only (n ≡ length bs) (λ d f h. same-ok n (length bs) (sym (t .end) ∙ is-edit d f h))))
 
 pub read-turn-means : (bs : List ℕ) (against : Option Refusal) (r : Result Turn Refusal) → r ≡ read-turn bs against → Bytes bs → Turn-read bs against r
 read-turn-means bs against r e fit =
     let P : Result Turn Refusal → Type 0 = λ x. Turn-read bs against x in
     subst P (sym e)
-      (cond-both (eqb (getD bs 0 0) 17) _ _ P (λ h. undo-means bs fit against (eqb-true (getD bs 0 0) 17 h))
-        (λ h. cond-both (eqb (getD bs 0 0) 18) _ _ P (λ g. redo-means bs fit against (eqb-true (getD bs 0 0) 18 g))
-          (λ g. does-means bs fit (eqb-false (getD bs 0 0) 17 h) (eqb-false (getD bs 0 0) 18 g) against (taken-end bs 0 against) refl)))
+    (cond-both (eqb (getD bs 0 0) 17) _ _ P (λ h. undo-means bs fit against (eqb-true (getD bs 0 0) 17 h))
+    (λ h. cond-both (eqb (getD bs 0 0) 18) _ _ P (λ g. redo-means bs fit against (eqb-true (getD bs 0 0) 18 g))
+    (λ g. does-means bs fit (eqb-false (getD bs 0 0) 17 h) (eqb-false (getD bs 0 0) 18 g) against (taken-end bs 0 against) refl)))
 
 -- a turn that is no undo and no redo
 pub other-turn : (bs : List ℕ) (against : Option Refusal) → (getD bs 0 0 ≡ 17 → ⊥) → (getD bs 0 0 ≡ 18 → ⊥) → read-turn bs against ≡ whole-edit bs (taken-end bs 0 against)
@@ -231,10 +237,10 @@ written-turn-read (does e) fits is-built =
     let k : getD bs 0 0 ≡ kind e = ap (λ l. getD l 0 0) all ∙ kind-first e [] 0 in
     let small = kind-small e in
     let taken : taken-end bs 0 None ≡ Ok (length bs) =
-      cond-true _ _ _ (le-leb (0 + 1) (length bs) (omega (arith, written-long e)))
-      ∙ (cond-true _ _ _ (ap built k ∙ is-built) ∙ (w .0 ∙ ap (λ (n : ℕ). let r : End = Ok n in r) (zero-add (length bs)))) in
+    cond-true _ _ _ (le-leb (0 + 1) (length bs) (omega (arith, written-long e)))
+    ∙ (cond-true _ _ _ (ap built k ∙ is-built) ∙ (w .0 ∙ ap (λ (n : ℕ). let r : End = Ok n in r) (zero-add (length bs)))) in
     let read : read-turn bs None ≡ Ok (Does (edit-at bs 0)) =
-      other-turn bs None (λ h. omega (arith, k, small)) (λ h. omega (arith, k, small)) ∙ (ap (whole-edit bs) taken ∙ cond-false _ _ _ (le-ltb (length bs) (length bs) (omega arith))) in
+    other-turn bs None (λ h. omega (arith, k, small)) (λ h. omega (arith, k, small)) ∙ (ap (whole-edit bs) taken ∙ cond-false _ _ _ (le-ltb (length bs) (length bs) (omega arith))) in
     let P : Result Turn Refusal → Type 0 = λ x. Cases x (λ s. turn-of bs s ≡ does e) (λ f. ⊥) in
     subst P (sym read) (ap does (w .1))
 written-turn-read undo fits is-built = refl

@@ -41,21 +41,21 @@ module _ (bs : List ℕ) where
   filter-told at room =
       let f = getD bs (at + 1) 0 in
       cond-both (ltb 3 f) _ _ End-told (λ h. (inr refl, omega arith))
-        (λ h. cond-both (eqb f 1) _ _ End-told (λ g. need-told at 258 _ (λ r. tt))
-          (λ g. cond-both (eqb f 2) _ _ End-told
-            (λ i. need-told at 3 _ (λ r. cond-both (ltb 64 (getD bs (at + 2) 0)) _ _ End-told (λ j. (inr refl, omega arith)) (λ j. tt))) (λ i. tt)))
+      (λ h. cond-both (eqb f 1) _ _ End-told (λ g. need-told at 258 _ (λ r. tt))
+      (λ g. cond-both (eqb f 2) _ _ End-told
+      (λ i. need-told at 3 _ (λ r. cond-both (ltb 64 (getD bs (at + 2) 0)) _ _ End-told (λ j. (inr refl, omega arith)) (λ j. tt))) (λ i. tt)))
 
   body-told : (at k : ℕ) → at + getD heads k 0 ≤ length bs → End-told (body-end bs at k)
   body-told at k room =
       cond-both (eqb k 6) _ _ End-told
-        (λ h. let r : at + 2 ≤ length bs = rw (eqb-true k 6 h) at room in cond-both (ltb 1 (getD bs (at + 1) 0)) _ _ End-told (λ g. (inr refl, omega arith)) (λ g. tt))
-        (λ h. cond-both (eqb k 13) _ _ End-told (λ g. stroke-told at (rw (eqb-true k 13 g) at room))
-          (λ g. cond-both (eqb k 14) _ _ End-told (λ i. filter-told at (rw (eqb-true k 14 i) at room)) (λ i. tt)))
+      (λ h. let r : at + 2 ≤ length bs = rw (eqb-true k 6 h) at room in cond-both (ltb 1 (getD bs (at + 1) 0)) _ _ End-told (λ g. (inr refl, omega arith)) (λ g. tt))
+      (λ h. cond-both (eqb k 13) _ _ End-told (λ g. stroke-told at (rw (eqb-true k 13 g) at room))
+      (λ g. cond-both (eqb k 14) _ _ End-told (λ i. filter-told at (rw (eqb-true k 14 i) at room)) (λ i. tt)))
 
   end-told : (at : ℕ) → End-told (end-of bs at)
   end-told at =
       need-told at 1 _ (λ r. cond-both (ltb 16 (getD bs at 0)) _ _ End-told (λ h. (inr refl, omega arith))
-        (λ h. need-told at (getD heads (getD bs at 0) 0) _ (λ s. body-told at (getD bs at 0) s)))
+      (λ h. need-told at (getD heads (getD bs at 0) 0) _ (λ s. body-told at (getD bs at 0) s)))
 
   abbrev Turn-told : Result Turn Refusal → Type 0
   Turn-told x = Cases x (λ t. Unit {0}) Told
@@ -71,6 +71,6 @@ pub turn-answered : Turn-answered
 turn-answered bs =
     let k = getD bs 0 0 in
     cond-both (eqb k 17) _ _ (Turn-told bs) (λ h. whole-told bs Undo 1)
-      (λ h. cond-both (eqb k 18) _ _ (Turn-told bs) (λ g. whole-told bs Redo 1)
-        (λ g. edit-told bs (taken-end bs 0 None)
-          (need-told bs 0 1 _ (λ r. cond-both (built k) _ _ (End-told bs) (λ b. end-told bs 0) (λ b. (inr refl, omega arith))))))
+    (λ h. cond-both (eqb k 18) _ _ (Turn-told bs) (λ g. whole-told bs Redo 1)
+    (λ g. edit-told bs (taken-end bs 0 None)
+    (need-told bs 0 1 _ (λ r. cond-both (built k) _ _ (End-told bs) (λ b. end-told bs 0) (λ b. (inr refl, omega arith))))))

@@ -72,13 +72,13 @@ filter-at bs at = filter-by bs at (getD bs (at + 1) 0)
 abbrev pub edit-by : List ℕ → ℕ → ℕ → Edit
 edit-by bs at k =
     getD
-      (AddLayer ∷ DropLayer ∷ ChooseLayer (getD bs (at + 1) 0) ∷ RaiseLayer ∷ SetMode (getD bs (at + 1) 0)
-      ∷ SetOpacity (two-at bs (at + 1)) ∷ SetVisible (eqb (getD bs (at + 1) 0) 1) ∷ MergeDown ∷ SelectAll
-      ∷ SelectRect (two-at bs (at + 1)) (two-at bs (at + 3)) (two-at bs (at + 5)) (two-at bs (at + 7))
-      ∷ SelectSimilar (getD bs (at + 1) 0) (two-at bs (at + 2)) (two-at bs (at + 4)) ∷ SelectInverse
-      ∷ Fill (pixel-at bs (at + 1)) ∷ Stroke (pixel-at bs (at + 1)) (getD bs (at + 5) 0) (at + 8) (two-at bs (at + 6))
-      ∷ ApplyFilter (filter-at bs at) ∷ Copy ∷ [])
-      k (Paste (two-at bs (at + 1)) (two-at bs (at + 3)))
+    (AddLayer ∷ DropLayer ∷ ChooseLayer (getD bs (at + 1) 0) ∷ RaiseLayer ∷ SetMode (getD bs (at + 1) 0)
+    ∷ SetOpacity (two-at bs (at + 1)) ∷ SetVisible (eqb (getD bs (at + 1) 0) 1) ∷ MergeDown ∷ SelectAll
+    ∷ SelectRect (two-at bs (at + 1)) (two-at bs (at + 3)) (two-at bs (at + 5)) (two-at bs (at + 7))
+    ∷ SelectSimilar (getD bs (at + 1) 0) (two-at bs (at + 2)) (two-at bs (at + 4)) ∷ SelectInverse
+    ∷ Fill (pixel-at bs (at + 1)) ∷ Stroke (pixel-at bs (at + 1)) (getD bs (at + 5) 0) (at + 8) (two-at bs (at + 6))
+    ∷ ApplyFilter (filter-at bs at) ∷ Copy ∷ [])
+    k (Paste (two-at bs (at + 1)) (two-at bs (at + 3)))
 
 abbrev pub edit-at : List ℕ → ℕ → Edit
 edit-at bs at = edit-by bs at (getD bs at 0)

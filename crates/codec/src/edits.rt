@@ -20,14 +20,31 @@ pub enum Edit {
     SetVisible(bool),
     MergeDown,
     SelectAll,
-    SelectRect { x: u16, y: u16, width: u16, height: u16 },
-    SelectSimilar { near: u8, x: u16, y: u16 },
+    SelectRect {
+        x: u16,
+        y: u16,
+        width: u16,
+        height: u16,
+    },
+    SelectSimilar {
+        near: u8,
+        x: u16,
+        y: u16,
+    },
     SelectInverse,
     Fill(Pixel),
-    Stroke { pixel: Pixel, radius: u8, start: usize, count: u16 },
+    Stroke {
+        pixel: Pixel,
+        radius: u8,
+        start: usize,
+        count: u16,
+    },
     ApplyFilter(Filter),
     Copy,
-    Paste { x: u16, y: u16 },
+    Paste {
+        x: u16,
+        y: u16,
+    },
 }
 
 #[derive(Clone, Copy)]

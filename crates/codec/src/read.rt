@@ -7,7 +7,11 @@ ghost use Rattle.codec.specs.Refusals.{number, place, lent-place};
 ghost use Rattle.codec.specs.Scan.{end-of, stroke-end, filter-end, filter-at, edit-at, Headed};
 ghost use Rattle.codec.specs.Read.{taken-end, whole-turn, unless, read-turn, edit-and-end};
 ghost use Rattle.codec.specs.Laws.{Turn-read, Edit-good};
-use crate::edits::{Edit, Filter, Lent, Refusal, Turn};
+use crate::edits::Edit;
+use crate::edits::Filter;
+use crate::edits::Lent;
+use crate::edits::Refusal;
+use crate::edits::Turn;
 use crate::kinds::is_built;
 use pixel::pixels::read_pixel;
 
@@ -118,14 +122,31 @@ fn edit_in(bytes: &[u8], at: usize) -> Edit
         6 => Edit::SetVisible(bytes[at + 1] == 1),
         7 => Edit::MergeDown,
         8 => Edit::SelectAll,
-        9 => Edit::SelectRect { x: two(bytes, at + 1), y: two(bytes, at + 3), width: two(bytes, at + 5), height: two(bytes, at + 7) },
-        10 => Edit::SelectSimilar { near: bytes[at + 1], x: two(bytes, at + 2), y: two(bytes, at + 4) },
+        9 => Edit::SelectRect {
+            x: two(bytes, at + 1),
+            y: two(bytes, at + 3),
+            width: two(bytes, at + 5),
+            height: two(bytes, at + 7),
+        },
+        10 => Edit::SelectSimilar {
+            near: bytes[at + 1],
+            x: two(bytes, at + 2),
+            y: two(bytes, at + 4),
+        },
         11 => Edit::SelectInverse,
         12 => Edit::Fill(read_pixel(bytes, at + 1)),
-        13 => Edit::Stroke { pixel: read_pixel(bytes, at + 1), radius: bytes[at + 5], start: at + 8, count: two(bytes, at + 6) },
+        13 => Edit::Stroke {
+            pixel: read_pixel(bytes, at + 1),
+            radius: bytes[at + 5],
+            start: at + 8,
+            count: two(bytes, at + 6),
+        },
         14 => Edit::ApplyFilter(filter_in(bytes, at)),
         15 => Edit::Copy,
-        _ => Edit::Paste { x: two(bytes, at + 1), y: two(bytes, at + 3) },
+        _ => Edit::Paste {
+            x: two(bytes, at + 1),
+            y: two(bytes, at + 3),
+        },
     }
 }
 
@@ -160,7 +181,11 @@ pub(crate) fn taken_end(bytes: &[u8], at: usize, against: Option<Refusal>) -> Re
 fn whole(bytes: &[u8], turn: Turn, end: usize) -> Result<Turn, Refusal>
     ensures { λ r. ⌜ r ≡ whole-turn (now (bytes .entry)) turn end ⌝ }
 {
-    if end < bytes.len() { Err(Refusal::GoesOn(end)) } else { Ok(turn) }
+    if end < bytes.len() {
+        Err(Refusal::GoesOn(end))
+    } else {
+        Ok(turn)
+    }
 }
 
 // The turn, of one byte.

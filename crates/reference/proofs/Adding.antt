@@ -19,8 +19,8 @@ use Rattle.codec.specs.Read.{edit-or-none, edit-and-end}
 use Rattle.codec.specs.Laws.{Edit-good}
 use Rattle.codec.proofs.Complete.{written-read}
 use Rattle.codec.proofs.Growing.{held-reach}
+use Rattle.canvas.specs.Applying.{Built}
 use Rattle.reference.specs.declared.state.Engine.{Engine}
-use Rattle.reference.specs.Lists.{Built}
 use Rattle.reference.specs.Turning.{history, Edit-bytes, Steps, Adds}
 
 pub read-behind : (bs turn : List ℕ) (e : page.Edit) → Edit-bytes turn e → edit-of (bs ++ turn) (edit-and-end (bs ++ turn) (length bs) .0) ≡ e

@@ -19,7 +19,8 @@ use Rattle.codec.specs.Meaning.{edit-of}
 use Rattle.codec.specs.Kinds.{built}
 use Rattle.codec.specs.Reach.{reach}
 use Rattle.codec.proofs.Growing.{edit-grows}
-use Rattle.reference.specs.Lists.{meanings, Built, All-built, All-reach, history-of}
+use Rattle.canvas.specs.Applying.{Built}
+use Rattle.reference.specs.Lists.{meanings, All-built, All-reach, history-of}
 
 -- an edit put in behind the first d, and what came after cut off
 behind : (xs : List Edit) (n : ℕ) (x : Edit) → n ≤ length xs → take (suc n) (take n xs ++ x ∷ drop n xs) ≡ take n xs ++ x ∷ []

@@ -16,11 +16,7 @@ use Rattle.codec.specs.Kinds.{built}
 abbrev pub meanings : List ℕ → List Edit → List page.Edit
 meanings bs es = map (edit-of bs) es
 
--- an edit of a kind that there is
-abbrev pub Built : List ℕ → Edit → Type 0
-Built bs e = built (kind (edit-of bs e)) ≡ true
-
--- each edit of a list is; and its points or numbers lie in the bytes
+-- each edit of a list is of a kind that there is; and its points or numbers lie in the bytes
 abbrev pub All-built : List ℕ → List Edit → Type 0
 All-built bs es = (k : ℕ) (d : Edit) → k < length es → built (kind (edit-of bs (getD es k d))) ≡ true
 

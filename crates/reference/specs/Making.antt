@@ -11,15 +11,10 @@ use Rattle.pixel.specs.declared.Pixel.{Pixel}
 use Rattle.pixel.specs.Pixels.{white}
 use Rattle.page.specs.Layers.{composite}
 use Rattle.page.specs.Edits as page
-use Rattle.page.specs.Edits.{Page, edited, blank, after, seen}
+use Rattle.page.specs.Edits.{blank, after, seen}
 use Rattle.page.specs.Agree.{Agree}
 use Rattle.canvas.specs.declared.state.Canvas.{Canvas}
 use Rattle.canvas.specs.View.{view, layers-of}
-
--- one edit more
-pub record Applied (s : Canvas) (e : page.Edit) (xs ys : List ℕ) : Type 0 where
-  pub agrees : Agree (view s ys) (edited (view s xs) e)
-  pub long : length ys ≡ length xs
 
 -- everything made anew from the blank page
 pub record Replayed (w h : ℕ) (es : List page.Edit) (xs ys : List ℕ) (s : Canvas) : Type 0 where

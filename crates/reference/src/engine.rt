@@ -43,7 +43,11 @@ fn refused_size(wide: usize, high: usize) -> Option<Refusal>
 fn against_turn(taken: usize) -> Option<Refusal>
     ensures { λ r. ⌜ r ≡ against taken ⌝ }
 {
-    if taken < 65536 { None } else { Some(Refusal::TooMany(0)) }
+    if taken < 65536 {
+        None
+    } else {
+        Some(Refusal::TooMany(0))
+    }
 }
 
 // Puts an edit behind the first `done`, and forgets those that were undone.
@@ -65,7 +69,14 @@ impl Engine {
         if let Some(why) = refused_size(wide, high) {
             return Err(why);
         }
-        Ok(Engine { wide, high, bytes: Vec::new(heap), edits: Vec::new(heap), done: 0, taken: 0 })
+        Ok(Engine {
+            wide,
+            high,
+            bytes: Vec::new(heap),
+            edits: Vec::new(heap),
+            done: 0,
+            taken: 0,
+        })
     }
 
     // Does the edit that the bytes of a turn are.
@@ -141,6 +152,12 @@ impl Engine {
             return Err(Refusal::Short(Lent::Tiles));
         }
         let edits = self.edits.as_slice();
-        Ok(replay(self.wide, self.high, &edits[0..self.done], self.bytes.as_slice(), tiles))
+        Ok(replay(
+            self.wide,
+            self.high,
+            &edits[0..self.done],
+            self.bytes.as_slice(),
+            tiles,
+        ))
     }
 }

@@ -9,7 +9,8 @@ use Rattle.page.specs.Agree.{Agree}
 use Rattle.canvas.specs.View.{view}
 use Rattle.codec.specs.declared.edits.Edit.{Edit}
 use Rattle.codec.specs.declared.edits.Edit.the-variants.{AddLayer}
-use Rattle.reference.specs.Lists.{meanings, Built}
+use Rattle.canvas.specs.Applying.{Built}
+use Rattle.reference.specs.Lists.{meanings}
 use Rattle.reference.proofs.Onward.{one-more, replayed}
 use Rattle.reference.proofs.applying.replay.Needs as need
 

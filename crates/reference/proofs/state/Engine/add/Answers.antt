@@ -40,9 +40,13 @@ pub returns-in-Break-put-behind : need.returns-in-Break-put-behind
 returns-in-Break-put-behind c =
     let s = c .args .self .now in
     not-added _ _ _ _ (c .from-residual-in-Break-put-behind .ensures .0)
-    (record { same-wide = refl; same-high = refl; same-taken = refl;
+    (record {
+      same-wide = refl;
+      same-high = refl;
+      same-taken = refl;
       history-is = ap₂ (λ b e. history-of b e (s .done)) (c .in-Continue-extend-from-slice .ensures tt .items) (c .in-Break-put-behind .ensures tt .items)
-        ∙ history-grows (vec-items (s .bytes)) (c .args .turn .now) (vec-items (s .edits)) (s .done) (good-of s) })
+          ∙ history-grows (vec-items (s .bytes)) (c .args .turn .now) (vec-items (s .edits)) (s .done) (good-of s);
+    })
 
 -- the edit that was read means the edit that the bytes are
 new-means : (bs turn now : List ℕ) (at : ℕ) (x : Edit × ℕ) → now ≡ bs ++ turn → at ≡ length bs → x ≡ edit-and-end now at → (e : page.Edit) → Edit-bytes turn e → edit-of (bs ++ turn) (x .0) ≡ e
@@ -74,6 +78,10 @@ returns c = λ e b.
     let bytes = c .in-Continue-extend-from-slice .ensures tt .items in
     let edits = c .in-Continue-put-behind .ensures tt .items in
     let means = new-means bs turn (c .as-slice .result .now) (c .len-at .result) x (c .as-slice .ensures .value ∙ bytes) (c .len-at .ensures ∙ s .bytes .ok .0) (c .edit-at-edit .ensures .is) e b in
-    record { same-wide = refl; same-high = refl; same-taken = refl;
+    record {
+      same-wide = refl;
+      same-high = refl;
+      same-taken = refl;
       history-is = ap₂ (λ l m. history-of l m (s .done + 1)) bytes edits
-        ∙ history-put bs turn (vec-items (s .edits)) (s .done) (x .0) e (omega (arith, s .counted, s .edits .ok .0)) (good-of s) means }
+          ∙ history-put bs turn (vec-items (s .edits)) (s .done) (x .0) e (omega (arith, s .counted, s .edits .ok .0)) (good-of s) means;
+    }

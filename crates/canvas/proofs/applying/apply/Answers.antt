@@ -1,5 +1,5 @@
-use Rattle.reference.proofs.Onward.{none-other}
-use Rattle.reference.proofs.applying.apply.Needs as need
+use Rattle.canvas.proofs.Unbuilt.{none-other}
+use Rattle.canvas.proofs.applying.apply.Needs as need
 
 -- an edit of another kind is not built
 pub returns-in-rest : need.returns-in-rest

@@ -1,0 +1,24 @@
+-- An edit applied to a canvas. Assumes nothing.
+use mathlib.Core.Path.{_≡_}
+use mathlib.Core.Bool.{true}
+use mathlib.Core.List.{List}
+use Prim.Native.Nat.{ℕ}
+use lib.ListN.{length}
+use Rattle.page.specs.Edits as page
+use Rattle.page.specs.Edits.{edited}
+use Rattle.page.specs.Agree.{Agree}
+use Rattle.page.specs.Fits.{kind}
+use Rattle.codec.specs.declared.edits.Edit.{Edit}
+use Rattle.codec.specs.Meaning.{edit-of}
+use Rattle.codec.specs.Kinds.{built}
+use Rattle.canvas.specs.declared.state.Canvas.{Canvas}
+use Rattle.canvas.specs.View.{view}
+
+-- an edit of a kind that there is
+abbrev pub Built : List ℕ → Edit → Type 0
+Built bs e = built (kind (edit-of bs e)) ≡ true
+
+-- the page is the one before, edited
+pub record Applied (s : Canvas) (e : page.Edit) (xs ys : List ℕ) : Type 0 where
+  pub agrees : Agree (view s ys) (edited (view s xs) e)
+  pub long : length ys ≡ length xs

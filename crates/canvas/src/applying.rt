@@ -1,0 +1,35 @@
+// One edit of any kind that a canvas does itself.
+ghost use Prim.Native.Nat.{ℕ, _*_, _≤_};
+ghost use lib.ListN.{length};
+ghost use Rattle.codec.specs.Meaning.{edit-of};
+ghost use Rattle.canvas.specs.Applying.{Built, Applied};
+use crate::state::Canvas;
+use crate::state::Rect;
+use codec::edits::Edit;
+
+// One edit, of a kind that there is; `source` holds its points or numbers.
+pub fn apply(canvas: &Canvas, tiles: &mut [u8], edit: Edit, source: &[u8])
+    requires { ⌜ Built (now source) edit ⌝ ∗ ⌜ 544 * (now canvas .wide * now canvas .high) ≤ length (now tiles) ⌝ }
+    ensures { λ _. ⌜ Applied (now (canvas .entry)) (edit-of (now (source .entry)) edit) (now (tiles .entry)) (now (tiles .exit)) ⌝ }
+{
+    match edit {
+        Edit::SelectAll => canvas.select_all(tiles),
+        Edit::SelectRect {
+            x,
+            y,
+            width,
+            height,
+        } => canvas.select_rect(
+            tiles,
+            Rect {
+                x,
+                y,
+                width,
+                height,
+            },
+        ),
+        Edit::SelectInverse => canvas.select_inverse(tiles),
+        Edit::Fill(p) => canvas.fill_selected(tiles, p),
+        _ => {}
+    }
+}

@@ -1,0 +1,5 @@
+pub mod Splitting
+pub mod Numerals
+pub mod Rows
+pub mod Reading
+pub mod Going

@@ -1,0 +1,8 @@
+// Turns as words that a person reads and types on a line, both ways.
+pub mod digits;
+pub mod forms;
+pub mod laws;
+pub mod lines;
+mod split;
+mod table;
+pub mod turns;
