@@ -7,12 +7,11 @@ use Rattle.pixel.specs.declared.Pixel.{Pixel}
 use Rattle.page.specs.Fits.{kind}
 use Rattle.codec.specs.declared.edits.Edit.{Edit}
 use Rattle.codec.specs.declared.edits.Edit.the-variants.{AddLayer, DropLayer, ChooseLayer, RaiseLayer, SetMode, SetOpacity, SetVisible, MergeDown, SelectAll, SelectRect, SelectSimilar, SelectInverse, Fill, Stroke, ApplyFilter, Copy, Paste}
-use Rattle.codec.specs.Kinds.{built}
 use Rattle.canvas.specs.Applying.{Built}
 
 -- an edit of none of the kinds that there are is not built
 pub none-other : (bs : List ℕ) (e : Edit) → Built bs e → (e ≡ SelectAll → ⊥) → ((x y w h : ℕ) → e ≡ SelectRect x y w h → ⊥) → (e ≡ SelectInverse → ⊥) → ((p : Pixel) → e ≡ Fill p → ⊥) → ⊥
-unfolding kind built
+unfolding kind
 none-other bs AddLayer b s r i f = false≢true b
 none-other bs DropLayer b s r i f = false≢true b
 none-other bs (ChooseLayer k) b s r i f = false≢true b

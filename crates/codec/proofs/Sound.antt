@@ -95,7 +95,7 @@ module _ (bs : List ℕ) (fit : Bytes bs) where
   pub two-lt : (i : ℕ) → two-at bs i < 65536
   two-lt i = omega (arith, fit i, fit (i + 1))
 
-  -- a part, and then what is left
+  -- some bytes, and then what is left
   byte-then : (i j : ℕ) (l : List ℕ) → j ≡ i + 1 → j ≤ length bs → drop j bs ≡ l → drop i bs ≡ getD bs i 0 ∷ l
   byte-then i j l e h t = drop-more bs i 0 (omega arith) ∙ ap (λ m. getD bs i 0 ∷ m) (ap (λ m. drop m bs) (sym e) ∙ t)
 

@@ -4,5 +4,5 @@ use Prim.Native.Nat.{ℕ}
 use lib.Dec.{eqb}
 
 -- select all, a rectangle, the inverse; fill
-unfoldable pub built : ℕ → Bool
+abbrev pub built : ℕ → Bool
 built k = (eqb k 8 || eqb k 9) || (eqb k 11 || eqb k 12)

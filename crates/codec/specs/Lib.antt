@@ -5,4 +5,7 @@ pub mod Refusals
 pub mod Scan
 pub mod Read
 pub mod Laws
+pub mod Files
+pub mod FileLaws
+pub mod Put
 pub mod Reach

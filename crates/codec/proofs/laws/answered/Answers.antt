@@ -1,5 +1,5 @@
-use Rattle.codec.proofs.Told.{turn-answered}
+use Rattle.codec.proofs.Told.{turn-answered, file-answered}
 use Rattle.codec.proofs.laws.answered.Needs as need
 
 pub returns : need.returns
-returns c = turn-answered
+returns c = record { turns = turn-answered; files = file-answered }

@@ -8,7 +8,8 @@ use Rattle.codec.specs.declared.edits.Turn.{Turn}
 use Rattle.codec.specs.declared.edits.Turn.the-variants.{Does}
 use Rattle.codec.specs.declared.edits.Refusal.{Refusal}
 use Rattle.codec.specs.Read.{turn-by, whole-edit, whole-turn, taken-end}
-use Rattle.codec.proofs.Means.{read-turn-means, other-turn, no-turn}
+use Rattle.codec.proofs.Sound.{headed}
+use Rattle.codec.proofs.Means.{of-taken, read-turn-means, other-turn, no-turn}
 use Rattle.codec.proofs.read.read_turn.Needs as need
 
 pub returns-then-bytes-eq0 : need.returns-then-bytes-eq0
@@ -25,6 +26,11 @@ pub returns-then-kind-eq18 : need.returns-then-kind-eq18
 returns-then-kind-eq18 c =
     let s = c .single-then-kind-eq18 .ensures ∙ sym (ap (turn-by (c .args .bytes .now) (c .args .against)) (c .if-kind-eq18 .taken)) in
     record { scans = s; means = read-turn-means (c .args .bytes .now) (c .args .against) _ s (λ k. omega (arith, c .typed .bytes k)) }
+
+pub edit-in-requires : need.edit-in-requires
+edit-in-requires c κs =
+    let bs = c .args .bytes .now in let end = c .in-Continue-end .end in
+    headed bs 0 end (of-taken bs 0 (c .args .against) end (sym (c .in-Continue-end .ensures tt)) .end) .0
 
 pub returns-in-Break-end : need.returns-in-Break-end
 returns-in-Break-end c =
