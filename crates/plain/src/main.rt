@@ -13,7 +13,6 @@ use std::env;
 use std::io;
 use std::io::Read;
 use std::io::Write;
-use words::digits::read_number;
 use words::digits::write_colour;
 use words::lines::Line;
 use words::lines::read_line;
@@ -34,9 +33,9 @@ struct Call {
 
 // A number that is an argument.
 fn number(arg: &String) -> Option<usize> {
-    match read_number(arg.as_bytes(), 65535) {
-        Some(n) => Some(n as usize),
-        None => None,
+    match arg.as_str().parse::<u16>() {
+        Ok(n) => Some(n as usize),
+        Err(_) => None,
     }
 }
 

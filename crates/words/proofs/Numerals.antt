@@ -60,42 +60,53 @@ pub number-back : (most n : ℕ) → n ≤ most → n < 2 ^ 64 → number-of mos
 number-back most n h k =
     decimal-by-steps (λ m ds. m ≤ most → number-of most ds ≡ Some m)
     (λ m l below. number-digit most 0 m m l (omega arith) below)
-    (λ m ds l so below. number-push most 0 (m / 10) ds (48 + m % 10) (so (omega arith)) ∙ number-digit most (m / 10) m (m % 10) (omega arith) (omega arith) below)
+    (λ m ds l so below.
+    number-push most 0 (m / 10) ds (48 + m % 10) (so (omega arith))
+    ∙ number-digit most (m / 10) m (m % 10) (omega arith) (omega arith) below)
     n k h
 
 pub decimal-word : (n : ℕ) → n < 2 ^ 64 → Word (decimal n)
 decimal-word n h =
     record {
       some = decimal-some n h;
-      inside = decimal-by-steps (λ m ds. All Inside ds) (λ m l. (grind (arith, tells), tt)) (λ m ds l so. all-push Inside ds (48 + m % 10) so (grind (arith, tells))) n h;
+      inside =
+          decimal-by-steps (λ m ds. All Inside ds) (λ m l. (grind (arith, tells), tt))
+          (λ m ds l so. all-push Inside ds (48 + m % 10) so (grind (arith, tells))) n h;
     }
 
 -- the steps of a cursor over a number's word: a digit, what stops it, the end
-pub number-step : (most n : ℕ) (w : List ℕ) (i v : ℕ) → i < length w → v ≡ digitValue (getD w i 0) → v < 10 → 10 * n + v ≤ most → number-on most n (drop i w) ≡ number-on most (10 * n + v) (drop (i + 1) w)
+pub number-step : (most n : ℕ) (w : List ℕ) (i v : ℕ) → i < length w → v ≡ digitValue (getD w i 0) → v < 10 → 10 * n + v ≤ most →
+    number-on most n (drop i w) ≡ number-on most (10 * n + v) (drop (i + 1) w)
 number-step most n w i v h e =
     subst (λ (u : ℕ). u < 10 → 10 * n + u ≤ most → number-on most n (drop i w) ≡ number-on most (10 * n + u) (drop (i + 1) w)) (sym e)
     (λ l k. at-drop-more (number-on most n) w i 0 h ∙ cond-true _ _ _ (and-from _ _ (lt-ltb _ 10 l) (le-leb _ most k)))
 
-pub number-stop : (most n : ℕ) (w : List ℕ) (i : ℕ) → i < length w → (digitValue (getD w i 0) < 10 → most < 10 * n + digitValue (getD w i 0)) → number-on most n (drop i w) ≡ None
+pub number-stop : (most n : ℕ) (w : List ℕ) (i : ℕ) → i < length w → (digitValue (getD w i 0) < 10 → most < 10 * n + digitValue (getD w i 0)) →
+    number-on most n (drop i w) ≡ None
 number-stop most n w i h stops =
     let v : ℕ = digitValue (getD w i 0) in
     let no-digit : (ltb v 10 && leb (10 * n + v) most) ≡ false =
-    elim (cases-lt v 10) [ inl l ↦ and-right (ltb v 10) (leb (10 * n + v) most) (lt-leb _ most (stops l)) | inr l ↦ and-left (ltb v 10) (leb (10 * n + v) most) (le-ltb _ 10 l) ] in
+    elim (cases-lt v 10) [
+      | inl l ↦ and-right (ltb v 10) (leb (10 * n + v) most) (lt-leb _ most (stops l))
+      | inr l ↦ and-left (ltb v 10) (leb (10 * n + v) most) (le-ltb _ 10 l)
+    ] in
     at-drop-more (number-on most n) w i 0 h ∙ cond-false _ _ None no-digit
 
 pub number-end : (most n : ℕ) (w : List ℕ) (i : ℕ) → length w ≤ i → number-on most n (drop i w) ≡ Some n
 number-end most n w i h = at-drop-all (number-on most n) w i h
 
 -- one byte more in hex
-pub hex-step : (old new xs : List ℕ) (i a b : ℕ) → i < length xs → a ≡ digitChar (getD xs i 0 / 16) → b ≡ digitChar (getD xs i 0 % 16) → new ≡ old ++ a ∷ b ∷ [] → new ++ hex (drop (i + 1) xs) ≡ old ++ hex (drop i xs)
+pub hex-step : (old new xs : List ℕ) (i a b : ℕ) → i < length xs → a ≡ digitChar (getD xs i 0 / 16) → b ≡ digitChar (getD xs i 0 % 16) →
+    new ≡ old ++ a ∷ b ∷ [] → new ++ hex (drop (i + 1) xs) ≡ old ++ hex (drop i xs)
 hex-step old new xs i a b h ea eb en =
     let at-i = at-drop-more hex xs i 0 h in
     let whole = append-assoc old (a ∷ b ∷ []) (hex (drop (i + 1) xs)) in cc
 
--- digits that are written from the end of a row of ten: there is room, and one more
-pub room : (n left : ℕ) (ds : List ℕ) (at : ℕ) → n < 2 ^ 32 → left ≤ n → length ds ≡ 10 → decimal left ++ drop at ds ≡ decimal n → 1 ≤ at
-room n left ds at small below ten e =
-    omega (arith, simp (length-append, length-drop) at (ap length e), decimal-some left (omega arith), length-decimal-le 10 n (omega arith) (omega arith) (omega arith))
+-- digits that are written from the end of a row of twenty: there is room, and one more
+pub room : (n left : ℕ) (ds : List ℕ) (at : ℕ) → n < 2 ^ 64 → left ≤ n → length ds ≡ 20 → decimal left ++ drop at ds ≡ decimal n → 1 ≤ at
+room n left ds at small below twenty e =
+    let lengths = simp (length-append, length-drop) at (ap length e) in
+    omega (arith, lengths, decimal-some left (omega arith), length-decimal-le 20 n (omega arith) (omega arith) (omega arith))
 
 pub digit-put : (front ds : List ℕ) (at v : ℕ) → 1 ≤ at → at ≤ length ds → front ++ drop (at - 1) (set ds (at - 1) v) ≡ front ++ v ∷ [] ++ drop at ds
 digit-put front ds at v h k =
@@ -104,12 +115,14 @@ digit-put front ds at v h k =
     let whole = append-assoc front (v ∷ []) (drop at ds) in cc
 
 -- one byte more of a word in hex, and its end, where a digit may be left
-pub hex-at : (w : List ℕ) (i : ℕ) → 2 * i + 1 < length w → hex-bytes (drop (2 * i) w) ≡ then (one (hex-pair (getD w (2 * i) 0) (getD w (2 * i + 1) 0))) (hex-bytes (drop (2 * (i + 1)) w))
+pub hex-at : (w : List ℕ) (i : ℕ) → 2 * i + 1 < length w →
+    hex-bytes (drop (2 * i) w) ≡ then (one (hex-pair (getD w (2 * i) 0) (getD w (2 * i + 1) 0))) (hex-bytes (drop (2 * (i + 1)) w))
 hex-at w i h =
     let first = drop-more w (2 * i) 0 (omega arith) in
     let second = drop-more w (2 * i + 1) 0 h in
     let next : 2 * i + 1 + 1 ≡ 2 * (i + 1) = omega arith in
-    ap hex-bytes (first ∙ ap (λ ds. getD w (2 * i) 0 ∷ ds) second) ∙ ap (λ k. then (one (hex-pair (getD w (2 * i) 0) (getD w (2 * i + 1) 0))) (hex-bytes (drop k w))) next
+    let pair = one (hex-pair (getD w (2 * i) 0) (getD w (2 * i + 1) 0)) in
+    ap hex-bytes (first ∙ ap (λ ds. getD w (2 * i) 0 ∷ ds) second) ∙ ap (λ k. then pair (hex-bytes (drop k w))) next
 
 pub hex-end : (ds : List ℕ) (n : ℕ) → length ds ≡ n → n < 2 → hex-bytes ds ≡ cond (eqb n 0) (Some []) None
 hex-end [] n e h = rw (← e)

@@ -27,7 +27,8 @@ split-word p (b ∷ bs) rest h =
 pub split-spaced : (p : List ℕ) (ws : List (List ℕ)) → 0 < length p → All Word ws → split p (spaced ws) ≡ p ∷ ws
 split-spaced [] ws h each = absurd (omega arith)
 split-spaced (b ∷ bs) [] h each = refl
-split-spaced (b ∷ bs) (w ∷ ws) h each = ap (λ vs. (b ∷ bs) ∷ vs) (split-word [] w (spaced ws) (each .0 .inside) ∙ split-spaced w ws (each .0 .some) (each .1))
+split-spaced (b ∷ bs) (w ∷ ws) h each =
+    ap (λ vs. (b ∷ bs) ∷ vs) (split-word [] w (spaced ws) (each .0 .inside) ∙ split-spaced w ws (each .0 .some) (each .1))
 
 pub words-back : (w : List ℕ) (ws : List (List ℕ)) → Word w → All Word ws → words-of (w ++ spaced ws) ≡ w ∷ ws
 words-back w ws h each = split-word [] w (spaced ws) (h .inside) ∙ split-spaced w ws (h .some) each

@@ -1,5 +1,6 @@
--- Numbers in decimal and bytes in hex, as words. `digitValue` is 0 to 9 at the decimal digits, 10 to 15 at `a` to `f` in either case, and more elsewhere; `digitChar` is the lower-case digit. Assumes nothing.
-use mathlib.Core.Bool.{Bool, cond, _&&_}
+-- Numbers in decimal and bytes in hex, as words. Assumes nothing.
+-- `digitValue` is 0 to 9 at the decimal digits, 10 to 15 at `a` to `f` in either case, and more elsewhere; `digitChar` is the lower-case digit.
+use mathlib.Core.Bool.{cond, _&&_}
 use mathlib.Core.List.{List, [], _∷_}
 use Prim.Native.Nat.{ℕ, _+_, _*_, _/_, _%_}
 use lib.Dec.{ltb, leb}

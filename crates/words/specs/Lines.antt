@@ -2,7 +2,7 @@
 use mathlib.Core.Path.{_≡_}
 use mathlib.Core.Bool.{Bool, cond, _&&_}
 use mathlib.Core.List.{List, [], _∷_, _++_}
-use Prim.Native.Nat.{ℕ, _+_, _<_}
+use Prim.Native.Nat.{ℕ, _<_}
 use lib.Chars.{codes}
 use lib.Dec.{eqb}
 use lib.ListN.{length, getD, take, drop}
@@ -27,30 +27,32 @@ abbrev pub raw-bytes : List (List ℕ) → Option (List ℕ)
 raw-bytes [] = None
 raw-bytes (w ∷ ws) = hex-words (w ∷ ws)
 
--- what a reader leaves in a list of bytes: `what` behind what was there, or a refusal
-abbrev pub Reads-on : Bool → List ℕ → List ℕ → Option (List ℕ) → Type 0
-Reads-on ok old new what = cond ok (Some new) None ≡ then (Some old) what
-
 -- those behind the name of a row, or behind a name that has no row
 abbrev pub row-bytes : Option Row → List ℕ → List (List ℕ) → Option (List ℕ)
 row-bytes (Some r) w ws = then (Some (r .head)) (fields-bytes (r .fields) ws)
 row-bytes None w ws = cond (sameBytes w (codes "bytes")) (raw-bytes ws) None
 
+-- whether a word is the name of a row
 abbrev pub named : List ℕ → Row → Bool
 named w r = sameBytes (r .name) w
 
--- what a line is, and the bytes of its turn
+-- what a line is, and the bytes of its turn, if it is one
 abbrev pub says-turn : Option (List ℕ) → Line × List ℕ
 says-turn (Some bs) = (Turn, bs)
 says-turn None = (Unknown, [])
 
+-- the first word is a name
 abbrev pub says-words : List (List ℕ) → Line × List ℕ
 says-words [] = (Blank, [])
 says-words (w ∷ ws) = says-turn (row-bytes (find (named w) table) w ws)
 
--- `#` begins a comment
+-- a line that begins with `#` is a comment
 abbrev pub understood : List ℕ → Line × List ℕ
 understood line = cond (eqb (getD line 0 0) 35) (Blank, []) (says-words (words-of line))
+
+-- what a reader leaves in a list of bytes: `what` behind what was there, or a refusal
+abbrev pub Reads-on : Bool → List ℕ → List ℕ → Option (List ℕ) → Type 0
+Reads-on ok old new what = cond ok (Some new) None ≡ then (Some old) what
 
 -- whether a turn's bytes are those of a row: its head, and as many as its fields have
 abbrev pub fits-row : List ℕ → Row → Bool

@@ -2,7 +2,7 @@
 ghost use mathlib.Core.Path.{_≡_};
 ghost use mathlib.Core.Bool.{cond};
 ghost use mathlib.Core.List.{[], _∷_, _++_};
-ghost use Prim.Native.Nat.{ℕ, _<_, _≤_};
+ghost use Prim.Native.Nat.{_<_, _≤_};
 ghost use Rattle.std.specs.Of.Vec.{vec-items};
 ghost use Rattle.std.specs.Results.{isOk};
 ghost use Rattle.std.specs.Slices.{found};
@@ -14,7 +14,7 @@ use pixel::Pixel;
 use std::alloc::AllocError;
 
 // The number of a word of decimal digits, if it is at most `most`.
-pub fn read_number(word: &[u8], most: u16) -> Option<u32>
+pub(crate) fn read_number(word: &[u8], most: u16) -> Option<u32>
     ensures is { λ r. ⌜ r ≡ number-of most (now (word .entry)) ⌝ }
     ensures bound { λ r. ⌜ found r (λ n. n ≤ most) ⌝ }
 {
@@ -30,7 +30,7 @@ pub fn read_number(word: &[u8], most: u16) -> Option<u32>
 }
 
 // The byte of two hex digits.
-pub fn hex_pair(a: u8, b: u8) -> Option<u8>
+pub(crate) fn hex_pair(a: u8, b: u8) -> Option<u8>
     ensures { λ r. ⌜ r ≡ hex-pair a b ⌝ }
 {
     let high = char::from(a).to_digit(16)?;
@@ -46,7 +46,7 @@ fn hex_digit(n: u8) -> u8
     if n < 10 { b'0' + n } else { b'a' + (n - 10) }
 }
 
-// Six hex digits behind the text: red, green, blue.
+// Six hex digits behind the text, red, green and blue; or nothing where there is no memory.
 pub fn write_colour(p: Pixel, out: &mut Vec<u8>) -> Result<(), AllocError>
     ensures { λ r. ⌜ vec-items (now (out .exit)) ≡ cond (isOk r) (vec-items (now (out .entry)) ++ hex (p .red ∷ p .green ∷ p .blue ∷ [])) (vec-items (now (out .entry))) ⌝ }
 {
@@ -63,7 +63,7 @@ pub fn write_colour(p: Pixel, out: &mut Vec<u8>) -> Result<(), AllocError>
 }
 
 // The bytes as hex digits behind the text.
-pub fn write_hex(bytes: &[u8], out: &mut Vec<u8>) -> Result<(), AllocError>
+pub(crate) fn write_hex(bytes: &[u8], out: &mut Vec<u8>) -> Result<(), AllocError>
     ensures { λ r. ⌜ made r (λ _. vec-items (now (out .exit)) ≡ vec-items (now (out .entry)) ++ hex (now (bytes .entry))) ⌝ }
 {
     for b in bytes {
@@ -72,12 +72,12 @@ pub fn write_hex(bytes: &[u8], out: &mut Vec<u8>) -> Result<(), AllocError>
     Ok(())
 }
 
-// The decimal digits of a number behind the text.
-pub fn write_number(n: u32, out: &mut Vec<u8>) -> Result<(), AllocError>
+// The decimal digits of a number behind the text, or nothing where there is no memory. No number has more than 20.
+pub fn write_number(n: usize, out: &mut Vec<u8>) -> Result<(), AllocError>
     ensures { λ r. ⌜ vec-items (now (out .exit)) ≡ cond (isOk r) (vec-items (now (out .entry)) ++ decimal n) (vec-items (now (out .entry))) ⌝ }
 {
-    let mut digits = [0; 10];
-    let mut at = 10;
+    let mut digits = [0; 20];
+    let mut at = 20;
     let mut left = n;
     while left >= 10 {
         at -= 1;

@@ -2,8 +2,6 @@
 ghost use Rattle.words.specs.Lines.{Reads-back};
 
 // Reading what was written gives the same turn.
-pub fn reading_law() -> u8
+pub fn reading_law()
     ensures { λ _. ⌜ Reads-back ⌝ }
-{
-    0
-}
+{}

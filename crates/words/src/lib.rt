@@ -1,6 +1,6 @@
 // Turns as words that a person reads and types on a line, both ways.
 pub mod digits;
-pub mod forms;
+mod forms;
 pub mod laws;
 pub mod lines;
 mod split;

@@ -1,6 +1,5 @@
 // What a line says: the words of a command, read into the bytes of a turn.
 ghost use mathlib.Core.Path.{_≡_};
-ghost use Prim.Native.Nat.{ℕ, _≤_};
 ghost use lib.Chars.{codes};
 ghost use lib.Dec.{eqb};
 ghost use lib.ListN.{getD};

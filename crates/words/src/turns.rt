@@ -1,7 +1,7 @@
 // A turn's bytes as a line of words.
 ghost use mathlib.Core.Path.{_≡_};
 ghost use mathlib.Core.List.{_++_};
-ghost use Prim.Native.Nat.{ℕ, _≤_};
+ghost use Prim.Native.Nat.{_≤_};
 ghost use lib.ListN.{length};
 ghost use Rattle.std.specs.Of.Vec.{vec-items};
 ghost use Rattle.std.specs.Vec.{made};
@@ -22,8 +22,8 @@ fn write_field(field: Field, bytes: &[u8], out: &mut Vec<u8>) -> Result<(), Allo
     ensures { λ r. ⌜ made r (λ _. vec-items (now (out .exit)) ≡ vec-items (now (out .entry)) ++ field-word field (now (bytes .entry))) ⌝ }
 {
     match field {
-        Field::Byte => write_number(bytes[0] as u32, out),
-        Field::Short => write_number(bytes[0] as u32 + 256 * bytes[1] as u32, out),
+        Field::Byte => write_number(bytes[0] as usize, out),
+        Field::Short => write_number(bytes[0] as usize + 256 * bytes[1] as usize, out),
         Field::Colour => write_hex(&bytes[..4], out),
     }
 }

@@ -17,6 +17,7 @@ returns-in-Continue-extend-from-slice c =
     let name = c .args .name .now in
     let ws = words-of (c .args .line .now) in
     let row = c .in-Some .ensures tt ∙ ap (find (named name)) (c .forms .ensures) in
+    let head = ap (λ (xs : List ℕ). Some xs) (c .in-Continue-extend-from-slice .ensures tt .items) in
     made-weaker (c .read-fields .result) _ _
-    (λ ok e. e ∙ (then-on _ old (Some (c .in-Some .form .head .now)) _ (ap (λ (xs : List ℕ). Some xs) (c .in-Continue-extend-from-slice .ensures tt .items)) ∙ ap (λ o. then (Some old) (row-bytes o name ws)) row))
+    (λ ok e. e ∙ (then-on _ old (Some (c .in-Some .form .head .now)) _ head ∙ ap (λ o. then (Some old) (row-bytes o name ws)) row))
     (c .read-fields .ensures)

@@ -9,19 +9,24 @@ use Rattle.words.proofs.lines.read_fields.Needs as need
 
 pub returns-in-rest : need.returns-in-rest
 returns-in-rest c =
-    fields-short (c .args .fields .now) (c .loop-field .field-index) Byte (vec-items (c .loop-field .turn)) _ (c .loop-field-test .taken) (c .in-rest .ensures tt) ∙ c .loop-field .inv
+    fields-short (c .args .fields .now) (c .loop-field .field-index) Byte (vec-items (c .loop-field .turn)) _
+    (c .loop-field-test .taken) (c .in-rest .ensures tt)
+    ∙ c .loop-field .inv
 
 pub returns-then-not-branch : need.returns-then-not-branch
 returns-then-not-branch c =
-    fields-step (c .args .fields .now) (c .loop-field .field-index) Byte (vec-items (c .loop-field .turn)) None _ _ _ (c .loop-field-test .taken) (c .in-Some .ensures tt)
-    (at-flag _ false _ _ (c .if-not-branch .taken) (c .in-Continue-read-field .ensures tt)) ∙ c .loop-field .inv
+    fields-step (c .args .fields .now) (c .loop-field .field-index) Byte (vec-items (c .loop-field .turn)) None _ _ _
+    (c .loop-field-test .taken) (c .in-Some .ensures tt) (at-flag _ false _ _ (c .if-not-branch .taken) (c .in-Continue-read-field .ensures tt))
+    ∙ c .loop-field .inv
 
 pub loop-field-again : need.loop-field-again
 loop-field-again c =
-    fields-step (c .args .fields .now) (c .loop-field .field-index) Byte (vec-items (c .loop-field .turn)) _ _ _ _ (c .loop-field-test .taken) (c .in-Some .ensures tt)
-    (at-flag _ true _ _ (c .if-not-branch .left) (c .in-Continue-read-field .ensures tt)) ∙ c .loop-field .inv
+    fields-step (c .args .fields .now) (c .loop-field .field-index) Byte (vec-items (c .loop-field .turn)) _ _ _ _
+    (c .loop-field-test .taken) (c .in-Some .ensures tt) (at-flag _ true _ _ (c .if-not-branch .left) (c .in-Continue-read-field .ensures tt))
+    ∙ c .loop-field .inv
 
 pub returns : need.returns
 returns c =
-    ap (λ b. cond b (Some (vec-items (c .loop-field .turn))) None) (c .at-end .ensures)
-    ∙ (fields-end (c .args .fields .now) (c .loop-field .field-index) Byte (vec-items (c .loop-field .turn)) (words-of (c .loop-field .rest .now)) (c .loop-field-test .left) ∙ c .loop-field .inv)
+    let turn = vec-items (c .loop-field .turn) in
+    let done = fields-end (c .args .fields .now) (c .loop-field .field-index) Byte turn (words-of (c .loop-field .rest .now)) (c .loop-field-test .left) in
+    ap (λ b. cond b (Some turn) None) (c .at-end .ensures) ∙ (done ∙ c .loop-field .inv)

@@ -3,11 +3,11 @@ use mathlib.Core.List.{List}
 use Prim.Native.Nat.{ℕ, _+_, _*_, _%_}
 use native.Mathlib.Omega.{arith}
 use lib.Dec.{eqb}
-use lib.ListN.{length, getD, drop, length-drop}
+use lib.ListN.{length, drop, length-drop}
 use Rattle.std.specs.declared.option.Option.the-variants.{None, Some}
 use Rattle.std.specs.Of.Vec.{vec-items}
 use Rattle.std.specs.Written.{then}
-use Rattle.words.specs.Digits.{hex-pair, one, hex-bytes}
+use Rattle.words.specs.Digits.{one, hex-bytes}
 use Rattle.words.proofs.Going.{then-on, then-end}
 use Rattle.words.proofs.Numerals.{hex-at, hex-end}
 use Rattle.words.proofs.lines.read_hex.Needs as need
@@ -34,4 +34,5 @@ returns c =
     let w = c .args .word .now in
     let i = c .loop-i .i in
     let old = vec-items (c .loop-i .turn) in
-    then-end (eqb (length w % 2) 0) old ∙ (ap (then (Some old)) (sym (hex-end (drop (2 * i) w) (length w % 2) (simp length-drop (omega arith)) (omega arith))) ∙ c .loop-i .inv)
+    let left = hex-end (drop (2 * i) w) (length w % 2) (simp length-drop (omega arith)) (omega arith) in
+    then-end (eqb (length w % 2) 0) old ∙ (ap (then (Some old)) (sym left) ∙ c .loop-i .inv)

@@ -8,4 +8,6 @@ use Rattle.words.specs.Digits.{hex-bytes}
 use Rattle.words.proofs.lines.read_hex.Given as given
 
 abbrev pub Inv-loop-i : given.InvT-loop-i
-Inv-loop-i l = then (Some (vec-items (l .turn))) (hex-bytes (drop (2 * l .i) (l .word))) ≡ then (Some (vec-items (l .entry .turn))) (hex-bytes (l .word))
+Inv-loop-i l =
+    then (Some (vec-items (l .turn))) (hex-bytes (drop (2 * l .i) (l .word)))
+    ≡ then (Some (vec-items (l .entry .turn))) (hex-bytes (l .word))

@@ -8,7 +8,9 @@ use Rattle.words.specs.Lines.{hex-words}
 use Rattle.words.proofs.lines.read_hex_words.Given as given
 
 abbrev pub Inv-loop-word : given.InvT-loop-word
-Inv-loop-word l = then (Some (vec-items (l .turn))) (hex-words (words-of (l .rest))) ≡ then (Some (vec-items (l .entry .turn))) (hex-words (words-of (l .entry .rest)))
+Inv-loop-word l =
+    then (Some (vec-items (l .turn))) (hex-words (words-of (l .rest)))
+    ≡ then (Some (vec-items (l .entry .turn))) (hex-words (words-of (l .entry .rest)))
 
 abbrev pub μ-loop-word : given.MeasureT-loop-word
 μ-loop-word l = length (words-of (l .rest))

@@ -1,7 +1,5 @@
-use Rattle.std.proofs.shelf.Equals.{matches-decides, sameBytes-decides}
-use Rattle.std.proofs.shelf.Ways.{same-from-decides}
+use Rattle.words.proofs.Rows.{matched}
 use Rattle.words.proofs.table.is_named.Needs as need
 
 pub returns : need.returns
-returns c =
-    same-from-decides (c .eq .result) _ (matches-decides _ _ _ (c .eq .ensures)) (sameBytes-decides (c .args .form .now .name .now) (c .args .name .now))
+returns c = matched _ _ _ (c .eq .ensures)

@@ -9,4 +9,5 @@ use Rattle.words.proofs.turns.write_fields.Given as given
 abbrev pub Inv-loop-field : given.InvT-loop-field
 Inv-loop-field l =
     (length (l .rest) ≡ sizes (drop (l .field-index) (l .fields)))
-    × (vec-items (l .out) ++ spaced (field-words (drop (l .field-index) (l .fields)) (l .rest)) ≡ vec-items (l .entry .out) ++ spaced (field-words (l .fields) (l .bytes)))
+    × (vec-items (l .out) ++ spaced (field-words (drop (l .field-index) (l .fields)) (l .rest))
+    ≡ vec-items (l .entry .out) ++ spaced (field-words (l .fields) (l .bytes)))

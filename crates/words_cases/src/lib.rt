@@ -1,0 +1,3 @@
+// Cases of lines and turns, for tests.
+#[cfg(test)]
+mod tests;
