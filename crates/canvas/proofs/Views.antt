@@ -72,6 +72,19 @@ module _ (s : Canvas) where
       subst (λ (a : Layer). Layer-agree w h a (layer (view s xs) k)) (sym (view-layer ys k lt))
       (subst (λ (b : Layer). Layer-agree w h (layer-of w h ys (entry k)) b) (sym (view-layer xs k lt)) (entry-agree xs ys k (same k lt))))
 
+  -- Bytes between the planes and the selection are no part of the page.
+  pub view-kept : (xs ys : List ℕ) (a e : ℕ) → 256 * n ≤ a → e ≤ 516 * n → Wrote a e xs ys → Agree (view s ys) (view s xs)
+  view-kept xs ys a e low high so =
+      record {
+        same-wide = refl;
+        same-high = refl;
+        same-active = refl;
+        same-layers = layers-kept xs ys (λ k l i j iw jh. pixel-kept _ _ xs ys _ so
+            (inl (omega (arith, plane-in n (entry k .plane) (s .planes k no-entry (omega (arith, s .full, s .counted .1))), mul-add-lt j w i h jh iw))));
+        same-selected = λ i j iw jh. so .after _ (omega arith);
+        same-clipboard = λ i j iw jh. pixel-kept _ _ xs ys _ so (inr (omega arith));
+      }
+
   -- A selection: bytes of its part alone are written, and they are g's.
   pub selection-view : (xs ys : List ℕ) (g : ℕ → ℕ → ℕ) → Wrote (selection-at n) (clipboard-at n) xs ys →
       ((i j : ℕ) → i < w → j < h → getD ys (selection-at n + (j * w + i)) 0 ≡ g i j) → Agree (view s ys) (with-selected (view s xs) g)

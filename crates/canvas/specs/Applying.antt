@@ -1,11 +1,11 @@
 -- An edit applied to a canvas. Assumes nothing.
 use mathlib.Core.Path.{_≡_}
-use mathlib.Core.Bool.{true}
+use mathlib.Core.Bool.{true, cond}
 use mathlib.Core.List.{List}
 use Prim.Native.Nat.{ℕ}
 use lib.ListN.{length}
 use Rattle.page.specs.Edits as page
-use Rattle.page.specs.Edits.{edited}
+use Rattle.page.specs.Edits.{edited, set-mode}
 use Rattle.page.specs.Agree.{Agree}
 use Rattle.page.specs.Fits.{kind}
 use Rattle.codec.specs.declared.edits.Edit.{Edit}
@@ -17,6 +17,10 @@ use Rattle.canvas.specs.View.{view}
 -- an edit of a kind that there is
 abbrev pub Built : List ℕ → Edit → Type 0
 Built bs e = built (kind (edit-of bs e)) ≡ true
+
+-- an edit of another kind changes nothing, as a mode that there is not
+abbrev pub known : page.Edit → page.Edit
+known e = cond (built (kind e)) e (set-mode 255)
 
 -- the page is the one before, edited
 pub record Applied (s : Canvas) (e : page.Edit) (xs ys : List ℕ) : Type 0 where

@@ -4,10 +4,12 @@ use mathlib.Core.Bool.{true, false}
 use mathlib.Core.List.{List, map}
 use Prim.Native.Nat.{ℕ, _+_, _*_, _≤_, _<_}
 use lib.ListN.{length, getD, take}
+use Rattle.pixel.specs.declared.Pixel.{Pixel}
 use Rattle.pixel.specs.declared.modes.Mode.the-variants.{Normal}
+use Rattle.pixel.specs.Pixels.{white}
 use Rattle.pixel.specs.Modes.{mode-number}
 use Rattle.pixel.specs.Bytes.{pixel-at, Wrote}
-use Rattle.page.specs.Layers.{Layer}
+use Rattle.page.specs.Layers.{Layer, composite}
 use Rattle.page.specs.Edits.{Page, Edit, edited, blank}
 use Rattle.page.specs.Agree.{Agree}
 use Rattle.canvas.specs.declared.state.Layer.{Layer as Entry}
@@ -49,6 +51,10 @@ view s xs =
       selected = λ i j. getD xs (selection-at (s .wide * s .high) + (j * s .wide + i)) 0;
       clipboard = λ i j. pixel-at xs (clipboard-at (s .wide * s .high) + 4 * (j * s .wide + i));
     }
+
+-- what is seen of the first k layers at a pixel
+abbrev pub seen-below : Canvas → List ℕ → ℕ → ℕ → ℕ → Pixel
+seen-below s xs k i j = composite (layers-of (s .wide) (s .high) xs (take k (s .layers))) (λ x y. white) i j
 
 -- a size that a page can have, and bytes enough for it
 pub record Room (w h : ℕ) (xs : List ℕ) : Type 0 where

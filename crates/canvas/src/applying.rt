@@ -1,16 +1,20 @@
 // One edit of any kind that a canvas does itself.
+ghost use mathlib.Core.Path.{_≡_};
+ghost use mathlib.Core.List.{List};
 ghost use Prim.Native.Nat.{ℕ, _*_, _≤_};
 ghost use lib.ListN.{length};
+ghost use Rattle.page.specs.Fits.{kind};
+ghost use Rattle.codec.specs.Kinds.{built};
 ghost use Rattle.codec.specs.Meaning.{edit-of};
-ghost use Rattle.canvas.specs.Applying.{Built, Applied};
+ghost use Rattle.canvas.specs.Applying.{known, Applied};
 use crate::state::Canvas;
 use crate::state::Rect;
 use codec::edits::Edit;
 
-// One edit, of a kind that there is; `source` holds its points or numbers.
+// One edit, if it is of a kind that there is; `source` holds its points or numbers.
 pub fn apply(canvas: &Canvas, tiles: &mut [u8], edit: Edit, source: &[u8])
-    requires { ⌜ Built (now source) edit ⌝ ∗ ⌜ 544 * (now canvas .wide * now canvas .high) ≤ length (now tiles) ⌝ }
-    ensures { λ _. ⌜ Applied (now (canvas .entry)) (edit-of (now (source .entry)) edit) (now (tiles .entry)) (now (tiles .exit)) ⌝ }
+    requires { ⌜ 544 * (now canvas .wide * now canvas .high) ≤ length (now tiles) ⌝ }
+    ensures { λ _. ⌜ Applied (now (canvas .entry)) (known (edit-of (now (source .entry)) edit)) (now (tiles .entry)) (now (tiles .exit)) ⌝ }
 {
     match edit {
         Edit::SelectAll => canvas.select_all(tiles),
@@ -31,5 +35,18 @@ pub fn apply(canvas: &Canvas, tiles: &mut [u8], edit: Edit, source: &[u8])
         Edit::SelectInverse => canvas.select_inverse(tiles),
         Edit::Fill(p) => canvas.fill_selected(tiles, p),
         _ => {}
+    }
+}
+
+// Whether an edit is of a kind that there is.
+pub fn is_known(edit: Edit) -> bool
+    ensures { λ r. ⌜ ((bs : List ℕ) → r ≡ built (kind (edit-of bs edit))) ⌝ }
+{
+    match edit {
+        Edit::SelectAll => true,
+        Edit::SelectRect { .. } => true,
+        Edit::SelectInverse => true,
+        Edit::Fill(_) => true,
+        _ => false,
     }
 }

@@ -146,7 +146,7 @@ put-none xs start =
 all-more : (es : List page.Edit) (e : page.Edit) → all-written (es ++ e ∷ []) ≡ all-written es ++ written e
 all-more es e = sym (joined-more written [] es e)
 
-put-more :
+pub put-more :
     (xs ys zs : List ℕ) (start at end : ℕ) (es : List page.Edit) (e : page.Edit) → Fits e → start + 8192 * length es ≤ length xs → Put-row xs ys start at es →
     zs ≡ put-at ys at (written e) → end ≡ at + length (written e) → Put-row xs zs start end (es ++ e ∷ [])
 put-more xs ys zs start at end es e fits room so put is =
@@ -176,7 +176,7 @@ put-room bs edits i e xs ys start at h good room same so =
     let size = length-map (take i edits) (edit-of bs) ∙ length-take-le i edits (omega arith) in
     omega (arith, so .end, so .few, size, written-short (edit-of bs e) (good .fits))
 
-all-append : (xs ys : List page.Edit) → all-written (xs ++ ys) ≡ all-written xs ++ all-written ys
+pub all-append : (xs ys : List page.Edit) → all-written (xs ++ ys) ≡ all-written xs ++ all-written ys
 all-append [] ys = refl
 all-append (x ∷ xs) ys = ap (λ l. written x ++ l) (all-append xs ys) ∙ sym (append-assoc (written x) (all-written xs) (all-written ys))
 

@@ -43,6 +43,12 @@ pub record Edit-good (bs : List ℕ) (e : Edit) : Type 0 where
   pub fits : Fits (edit-of bs e)
   pub held : Held bs e
 
+-- the bytes are those of the edit e, of a kind that is built
+pub record Edit-bytes (bs : List ℕ) (e : page.Edit) : Type 0 where
+  pub fits : Fits e
+  pub is-built : built (kind e) ≡ true
+  pub is : bs ≡ written e
+
 abbrev pub Turn-fits : history.Turn → Type 0
 Turn-fits (does e) = Fits e
 Turn-fits undo = Unit {0}

@@ -1,6 +1,7 @@
 // Loops that write a run of pixels or bytes, over the whole lent slice from a base offset on. Every other byte stays.
 ghost use mathlib.Core.Path.{_≡_};
-ghost use Prim.Native.Nat.{ℕ, _+_, _*_, _≤_};
+ghost use Prim.Native.Nat.{ℕ, _+_, _*_, _<_, _≤_};
+ghost use lib.Dec.{eqb};
 ghost use lib.ListN.{length, getD};
 ghost use Rattle.pixel.specs.Bytes.{Pixels-to, Bytes-to};
 use crate::Pixel;
@@ -34,4 +35,12 @@ pub fn copy_bytes(bytes: &mut [u8], at: usize, from: &[u8])
     for k in 0..from.len() {
         bytes[at + k] = from[k];
     }
+}
+
+// Whether there are no bytes. It also says that each is below 256, for proofs about a slice that is only lent on.
+pub fn no_bytes(bytes: &[u8]) -> bool
+    ensures is { λ r. ⌜ r ≡ eqb (length (now (bytes .entry))) 0 ⌝ }
+    ensures small { λ _. ⌜ ((k : ℕ) → getD (now (bytes .entry)) k 0 < 256) ⌝ }
+{
+    bytes.is_empty()
 }

@@ -4,17 +4,15 @@ use mathlib.Core.Bool.{cond, _&&_}
 use mathlib.Core.List.{List}
 use Prim.Native.Nat.{ℕ, _*_, _<_, _≤_}
 use lib.Dec.{ltb, leb}
-use lib.ListN.{length, take}
+use lib.ListN.{length}
 use Rattle.std.specs.declared.option.Option.{Option}
 use Rattle.std.specs.declared.option.Option.the-variants.{Some, None}
 use Rattle.pixel.specs.declared.Pixel.{Pixel}
-use Rattle.pixel.specs.Pixels.{white}
-use Rattle.page.specs.Layers.{composite}
 use Rattle.page.specs.Edits as page
 use Rattle.page.specs.Edits.{blank, after, seen}
 use Rattle.page.specs.Agree.{Agree}
 use Rattle.canvas.specs.declared.state.Canvas.{Canvas}
-use Rattle.canvas.specs.View.{view, layers-of}
+use Rattle.canvas.specs.View.{view}
 
 -- everything made anew from the blank page
 pub record Replayed (w h : ℕ) (es : List page.Edit) (xs ys : List ℕ) (s : Canvas) : Type 0 where
@@ -23,10 +21,6 @@ pub record Replayed (w h : ℕ) (es : List page.Edit) (xs ys : List ℕ) (s : Ca
   pub agrees : Agree (view s ys) (after (blank w h) es)
   pub long : length ys ≡ length xs
   pub shows : (i j : ℕ) → i < w → j < h → seen (view s ys) i j ≡ seen (after (blank w h) es) i j
-
--- what is seen of the first k layers at a pixel
-abbrev pub seen-below : Canvas → List ℕ → ℕ → ℕ → ℕ → Pixel
-seen-below s xs k i j = composite (layers-of (s .wide) (s .high) xs (take k (s .layers))) (λ x y. white) i j
 
 -- what is seen at a pixel, of a page that lies wholly in the bytes
 abbrev pub seen-at : Canvas → List ℕ → ℕ → ℕ → Option Pixel

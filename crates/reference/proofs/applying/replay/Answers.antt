@@ -1,15 +1,18 @@
 use native.Mathlib.Omega.{arith}
 use mathlib.Core.Path.{_≡_, ap, ap₂, subst, sym, _∙_}
 use Prim.Native.Nat.{ℕ, _*_, _≤_}
-use lib.ListN.{take, length}
+use lib.ListN.{take, getD}
 use lib.Seq.{take-all}
 use Rattle.std.proofs.shelf.Elements.{all-getD}
-use Rattle.page.specs.Edits.{blank, after}
+use Rattle.std.proofs.shelf.Tests.{cond-true}
+use Rattle.page.specs.Edits as page
+use Rattle.page.specs.Edits.{blank, after, edited}
 use Rattle.page.specs.Agree.{Agree}
 use Rattle.canvas.specs.View.{view}
 use Rattle.codec.specs.declared.edits.Edit.{Edit}
 use Rattle.codec.specs.declared.edits.Edit.the-variants.{AddLayer}
-use Rattle.canvas.specs.Applying.{Built}
+use Rattle.codec.specs.Meaning.{edit-of}
+use Rattle.canvas.specs.Applying.{Built, known}
 use Rattle.reference.specs.Lists.{meanings}
 use Rattle.reference.proofs.Onward.{one-more, replayed}
 use Rattle.reference.proofs.applying.replay.Needs as need
@@ -19,16 +22,17 @@ loop-k-holds c = c .make-blank-canvas .ensures .agrees
 
 pub apply-requires : need.apply-requires
 apply-requires c κs =
-    let s = c .make-blank-canvas .result in
     let new = c .make-blank-canvas .ensures .canvas in
-    let area : s .wide * s .high ≡ c .args .wide * c .args .high = ap₂ _*_ (new .wide-is) (new .high-is) in (
-      all-getD (Built (c .args .source .now)) (c .args .edits .now) (c .loop-k .k) AddLayer (c .loop-k-test .taken) (c .pre .1),
-      omega (arith, area, c .pre .0 .enough, c .make-blank-canvas .ensures .long, c .loop-k .kept .tiles),
-    )
+    let area : c .make-blank-canvas .result .wide * c .make-blank-canvas .result .high ≡ c .args .wide * c .args .high = ap₂ _*_ (new .wide-is) (new .high-is) in
+    omega (arith, area, c .pre .0 .enough, c .make-blank-canvas .ensures .long, c .loop-k .kept .tiles)
 
 pub loop-k-again : need.loop-k-again
 loop-k-again c =
-    one-more (blank (c .args .wide) (c .args .high)) _ _ (c .args .source .now) (c .args .edits .now) (c .loop-k .k) AddLayer (c .loop-k-test .taken) (c .loop-k .inv) (c .apply .ensures .agrees)
+    let bs = c .args .source .now in
+    let e = edit-of bs (getD (c .args .edits .now) (c .loop-k .k) AddLayer) in
+    let known-is : known e ≡ e = cond-true _ e _ (all-getD (Built bs) (c .args .edits .now) (c .loop-k .k) AddLayer (c .loop-k-test .taken) (c .pre .1)) in
+    one-more (blank (c .args .wide) (c .args .high)) _ _ bs (c .args .edits .now) (c .loop-k .k) AddLayer (c .loop-k-test .taken) (c .loop-k .inv)
+    (subst (λ (f : page.Edit). Agree (view (c .make-blank-canvas .result) (c .apply .last .tiles)) (edited (view (c .make-blank-canvas .result) (c .loop-k .tiles)) f)) known-is (c .apply .ensures .agrees))
 
 pub returns : need.returns
 returns c =

@@ -1,5 +1,5 @@
 use mathlib.Core.Path.{_≡_}
-use Rattle.reference.specs.Making.{seen-below}
+use Rattle.canvas.specs.View.{seen-below}
 use Rattle.reference.proofs.seeing.composite_at.Given as given
 
 abbrev pub Inv-loop-k : given.InvT-loop-k

@@ -1,0 +1,4 @@
+// The editor: begin, turn, show, write and read over lent memory; and the theorems about whole runs.
+pub mod editing;
+pub mod files;
+pub mod state;

@@ -1,0 +1,4 @@
+pub mod Offsets
+pub mod Grids
+pub mod Seeing
+pub mod Kept
