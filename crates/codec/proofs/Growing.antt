@@ -72,3 +72,26 @@ held-reach bs (ApplyFilter (BoxBlur r)) h = omega arith
 held-reach bs (ApplyFilter Edges) h = omega arith
 held-reach bs Copy h = omega arith
 held-reach bs (Paste x y) h = omega arith
+
+-- and what lies within is held
+pub reach-held : (bs : List ℕ) (e : Edit) → reach e ≤ length bs → Held bs e
+reach-held bs AddLayer h = tt
+reach-held bs DropLayer h = tt
+reach-held bs (ChooseLayer k) h = tt
+reach-held bs RaiseLayer h = tt
+reach-held bs (SetMode m) h = tt
+reach-held bs (SetOpacity a) h = tt
+reach-held bs (SetVisible b) h = tt
+reach-held bs MergeDown h = tt
+reach-held bs SelectAll h = tt
+reach-held bs (SelectRect x y w h) u = tt
+reach-held bs (SelectSimilar n x y) h = tt
+reach-held bs SelectInverse h = tt
+reach-held bs (Fill d) h = tt
+reach-held bs (Stroke d r start count) h = h
+reach-held bs (ApplyFilter Invert) h = tt
+reach-held bs (ApplyFilter (Curve start)) h = h
+reach-held bs (ApplyFilter (BoxBlur r)) h = tt
+reach-held bs (ApplyFilter Edges) h = tt
+reach-held bs Copy h = tt
+reach-held bs (Paste x y) h = tt

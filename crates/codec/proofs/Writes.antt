@@ -1,5 +1,6 @@
 -- What is put, piece after piece, is the writing of the edit.
 use mathlib.Core.Path.{_≡_, refl, sym, _∙_, ap, subst}
+use mathlib.Core.Bool.{cond}
 use mathlib.Core.List.{List, [], _∷_, _++_, map}
 use Prim.Native.Nat.{ℕ, zero, suc, _+_, _*_, _-_, _≤_, _<_}
 use native.Mathlib.Omega.{arith}
@@ -17,8 +18,11 @@ use Rattle.codec.specs.declared.edits.Filter.the-variants.{Invert, Curve, BoxB
 use Rattle.codec.specs.Written.{written, filter-written, points, two, four}
 use Rattle.codec.specs.Meaning.{edit-of, Bytes, points-at, Held}
 use Rattle.std.specs.declared.result.Result.{Result}
-use Rattle.std.specs.declared.result.Result.the-variants.{Ok}
+use Rattle.std.specs.declared.result.Result.the-variants.{Ok, Err}
+use Rattle.std.specs.Results.{isOk}
+use Rattle.std.specs.Vec.{made}
 use Rattle.codec.specs.declared.edits.Refusal.{Refusal}
+use Rattle.std.specs.Joined.{joined}
 use Rattle.codec.specs.Scan.{end-of, edit-at}
 use Rattle.codec.specs.Laws.{Edit-good}
 use Rattle.codec.specs.Files.{all-written, file-head}
@@ -89,6 +93,14 @@ module _ (bs : List ℕ) (e : Edit) (fit : Bytes bs) (held : Held bs e) (xs mid 
 
   pub then-end : (r : ℕ) → r ≡ then + length q → r ≡ at + length (written (edit-of bs e))
   then-end r h = omega (arith, sizes)
+
+-- the two pieces that are added, the second with memory for it
+pub then-added :
+    {E : Type 0} (bs : List ℕ) (e : Edit) → Bytes bs → Held bs e → (old mid last p q : List ℕ) (r : Result (Unit {0}) E) → p ≡ head-of e → q ≡ tail-of bs e →
+    mid ≡ old ++ p → last ≡ cond (isOk r) (mid ++ q) mid → made r (λ u. last ≡ old ++ written (edit-of bs e))
+then-added bs e fit held old mid last p q (Err x) p-is q-is mid-is last-is = tt
+then-added bs e fit held old mid last p q (Ok u) p-is q-is mid-is last-is =
+    last-is ∙ rw (mid-is, p-is, q-is) (append-assoc old (head-of e) (tail-of bs e) ∙ ap (λ l. old ++ l) (head-tail bs e fit held))
 
 -- the bytes of an edit that is read are its writing, and are there
 module _ (bs : List ℕ) (at n : ℕ) (fit : Bytes bs) (e : end-of bs at ≡ Ok n) where
@@ -180,6 +192,14 @@ pub all-append : (xs ys : List page.Edit) → all-written (xs ++ ys) ≡ all-wri
 all-append [] ys = refl
 all-append (x ∷ xs) ys = ap (λ l. written x ++ l) (all-append xs ys) ∙ sym (append-assoc (written x) (all-written xs) (all-written ys))
 
+-- a step of a loop that adds a piece for each item
+pub added-step :
+    {X Y : Type 0} (f : Y → List ℕ) (g : X → Y) (xs : List X) (i : ℕ) (d : X) (old mid last : List ℕ) → i < length xs →
+    mid ≡ old ++ joined f (map g (take i xs)) → last ≡ mid ++ f (g (getD xs i d)) → last ≡ old ++ joined f (map g (take (i + 1) xs))
+added-step f g xs i d old mid last h so is =
+    let ys = map g (take i xs) in let y = g (getD xs i d) in
+    is ∙ (ap (λ l. l ++ f y) so ∙ (append-assoc old (joined f ys) (f y) ∙ ap (λ l. old ++ l) (joined-more f [] ys y ∙ ap (joined f) (sym (map-more g xs i d h)))))
+
 -- head and edits are the file
 module _ (bs : List ℕ) (w h : ℕ) (edits : List Edit) (done : ℕ) (within : done ≤ length edits) where
   file-pieces : file-head w h done (length edits - done) ++ all-written (map (edit-of bs) edits) ≡ file-of bs w h edits done
@@ -193,6 +213,12 @@ module _ (bs : List ℕ) (w h : ℕ) (edits : List Edit) (done : ℕ) (within : 
       ap (λ l. file-head w h done (length edits - done) ++ l) all
       ∙ (ap (λ n. file-head w h n (length edits - done) ++ (all-written d ++ all-written u)) (sym d-long)
       ∙ ap (λ n. file-head w h (length d) n ++ (all-written d ++ all-written u)) (sym u-long))
+
+  pub added-file :
+      {E : Type 0} (old mid last : List ℕ) (r : Result (Unit {0}) E) → mid ≡ old ++ file-head w h done (length edits - done) →
+      made r (λ u. last ≡ mid ++ all-written (map (edit-of bs) edits)) → made r (λ u. last ≡ old ++ file-of bs w h edits done)
+  added-file old mid last (Err x) m e = tt
+  added-file old mid last (Ok u) m e = e ∙ (ap (λ l. l ++ all-written (map (edit-of bs) edits)) m ∙ (append-assoc old _ _ ∙ ap (λ l. old ++ l) file-pieces))
 
   module _ (out mid last : List ℕ) (start r : ℕ) (room : file-room edits ≤ length out) (mid-is : mid ≡ put-at out 0 (file-head w h done (length edits - done))) (start-is : start ≡ 16) where
     pub put-file : last ≡ put-at mid start (all-written (map (edit-of bs) edits)) → last ≡ file-put out (file-of bs w h edits done) edits

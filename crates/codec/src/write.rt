@@ -1,6 +1,7 @@
 // Writing an edit: its head from the fields, then what the bytes that it was read from have of its points or numbers.
 // Writing a file: its head, then its edits.
 ghost use mathlib.Core.Path.{_≡_};
+ghost use mathlib.Core.Bool.{cond};
 ghost use mathlib.Core.List.{map, [], _∷_, _++_};
 ghost use Prim.Native.Nat.{ℕ, _+_, _*_, _<_, _≤_, _%_, _/_, _-_};
 ghost use lib.ListN.{length, getD, take};
@@ -11,6 +12,9 @@ ghost use Rattle.codec.specs.Scan.{end-of, edit-at};
 ghost use Rattle.codec.specs.Files.{file-head, all-written};
 ghost use Rattle.codec.specs.Laws.{Edit-good};
 ghost use Rattle.std.specs.shelf.Lists.{All};
+ghost use Rattle.std.specs.Of.Vec.{vec-items};
+ghost use Rattle.std.specs.Results.{isOk};
+ghost use Rattle.std.specs.Vec.{made};
 ghost use Rattle.std.specs.declared.result.Result.the-variants.{Ok};
 use crate::edits::Edit;
 use crate::edits::Filter;
@@ -18,6 +22,7 @@ use crate::edits::Lent;
 use crate::edits::Refusal;
 use crate::file::File;
 use pixel::Pixel;
+use std::alloc::AllocError;
 
 // Copies `piece` into `out` from `at` on, and says where it ends.
 fn put(out: &mut [u8], at: usize, piece: &[u8]) -> usize
@@ -155,16 +160,14 @@ pub fn copy_edit(out: &mut [u8], to: usize, source: &[u8], at: usize, end: usize
     put(out, to, &source[at..end])
 }
 
-// Writes what stands in a file before its edits.
-pub fn write_head(out: &mut [u8], file: File) -> usize
-    requires { ⌜ 16 ≤ length (now out) ⌝ }
-    ensures after { λ r. ⌜ now (out .exit) ≡ put-at (now (out .entry)) 0 (file-head (file .width) (file .height) (file .done) (file .undone)) ⌝ }
-    ensures end { λ r. ⌜ r ≡ 16 ⌝ }
+// What stands in a file before its edits.
+fn head_bytes(file: File) -> [u8; 16]
+    ensures { λ r. ⌜ r ≡ file-head (file .width) (file .height) (file .done) (file .undone) ⌝ }
 {
     let (d, e) = ((file.done % 65536) as u16, (file.done / 65536) as u16);
     let (u, v) = ((file.undone % 65536) as u16, (file.undone / 65536) as u16);
     let (w, h) = (file.width, file.height);
-    let bytes = [
+    [
         b'P',
         b'A',
         b'G',
@@ -181,8 +184,67 @@ pub fn write_head(out: &mut [u8], file: File) -> usize
         high(u),
         low(v),
         high(v),
-    ];
-    put(out, 0, &bytes)
+    ]
+}
+
+// Writes what stands in a file before its edits.
+pub fn write_head(out: &mut [u8], file: File) -> usize
+    requires { ⌜ 16 ≤ length (now out) ⌝ }
+    ensures after { λ r. ⌜ now (out .exit) ≡ put-at (now (out .entry)) 0 (file-head (file .width) (file .height) (file .done) (file .undone)) ⌝ }
+    ensures end { λ r. ⌜ r ≡ 16 ⌝ }
+{
+    put(out, 0, &head_bytes(file))
+}
+
+// Adds what stands in a file before its edits, or nothing without memory for it.
+pub fn append_head(out: &mut Vec<u8>, file: File) -> Result<(), AllocError>
+    ensures { λ r. ⌜ vec-items (now (out .exit)) ≡ cond (isOk r) (vec-items (now (out .entry)) ++ file-head (file .width) (file .height) (file .done) (file .undone)) (vec-items (now (out .entry))) ⌝ }
+{
+    out.extend_from_slice(&head_bytes(file))
+}
+
+// Adds the edit, read from `source`. Without memory for all of it, a part of it may have been added.
+pub fn append_edit(out: &mut Vec<u8>, edit: Edit, source: &[u8]) -> Result<(), AllocError>
+    requires { ⌜ Held (now source) edit ⌝ }
+    ensures { λ r. ⌜ made r (λ _. vec-items (now (out .exit)) ≡ vec-items (now (out .entry)) ++ written (edit-of (now (source .entry)) edit)) ⌝ }
+{
+    let (bytes, size) = head(edit);
+    out.extend_from_slice(&bytes[0..size])?;
+    out.extend_from_slice(tail(edit, source))
+}
+
+// Adds the edits one after the other. Without memory for all of them, a part may have been added.
+fn append_edits(out: &mut Vec<u8>, edits: &[Edit], source: &[u8]) -> Result<(), AllocError>
+    requires { ⌜ All (Held (now source)) (now edits) ⌝ }
+    ensures { λ r. ⌜ made r (λ _. vec-items (now (out .exit)) ≡ vec-items (now (out .entry)) ++ all-written (map (edit-of (now (source .entry))) (now (edits .entry)))) ⌝ }
+{
+    for edit in edits {
+        append_edit(out, *edit, source)?;
+    }
+    Ok(())
+}
+
+// Adds the file of some edits, the first `done` of which are done. Without memory for all of it, a part may have been added.
+pub fn append_file(
+    out: &mut Vec<u8>,
+    width: u16,
+    height: u16,
+    edits: &[Edit],
+    done: usize,
+    source: &[u8],
+) -> Result<(), AllocError>
+    requires held { ⌜ All (Held (now source)) (now edits) ⌝ }
+    requires few { ⌜ length (now edits) ≤ 65536 ⌝ ∗ ⌜ done ≤ length (now edits) ⌝ }
+    ensures { λ r. ⌜ made r (λ _. vec-items (now (out .exit)) ≡ vec-items (now (out .entry)) ++ file-of (now (source .entry)) width height (now (edits .entry)) done) ⌝ }
+{
+    let file = File {
+        width,
+        height,
+        done: done as u32,
+        undone: (edits.len() - done) as u32,
+    };
+    append_head(out, file)?;
+    append_edits(out, edits, source)
 }
 
 // Writes the edits one after the other from `start` on, and says where they end.

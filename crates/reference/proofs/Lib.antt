@@ -1,3 +1,7 @@
 mod Onward
+mod Fitting
 mod Listing
 mod Adding
+mod Opening
+mod Keeping
+mod Texts

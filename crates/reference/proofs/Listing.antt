@@ -12,7 +12,7 @@ use Rattle.std.proofs.shelf.Elements.{all-from-getD, all-getD, all-weaker, all-
 use Rattle.std.proofs.shelf.Lists.{append-nil, map-more, map-append, take-all, drop-all, length-take-le}
 use Rattle.page.specs.Edits as page
 use Rattle.page.specs.History.{History, in-order, turned, undone-once, redone-once, does, undo, redo}
-use Rattle.page.specs.Fits.{kind}
+use Rattle.page.specs.Fits.{Fits, kind}
 use Rattle.codec.specs.declared.edits.Edit.{Edit}
 use Rattle.codec.specs.declared.edits.Edit.the-variants.{AddLayer}
 use Rattle.codec.specs.Meaning.{edit-of}
@@ -20,7 +20,8 @@ use Rattle.codec.specs.Kinds.{built}
 use Rattle.codec.specs.Reach.{reach}
 use Rattle.codec.proofs.Growing.{edit-grows}
 use Rattle.canvas.specs.Applying.{Built}
-use Rattle.reference.specs.Lists.{meanings, All-built, All-reach, history-of}
+use Rattle.reference.proofs.Fitting.{known}
+use Rattle.reference.specs.Lists.{meanings, All-built, All-reach, All-fits, history-of}
 
 -- an edit put in behind the first d, and what came after cut off
 behind : (xs : List Edit) (n : ℕ) (x : Edit) → n ≤ length xs → take (suc n) (take n xs ++ x ∷ drop n xs) ≡ take n xs ++ x ∷ []
@@ -63,10 +64,10 @@ undone bs es d some l =
 
 -- BYTES THAT GROW: the edits in them mean the same
 abbrev pub Good : List ℕ → Edit → Type 0
-Good bs e = (reach e ≤ length bs) × Built bs e
+Good bs e = (reach e ≤ length bs) × Built bs e × Fits (edit-of bs e)
 
-pub all-good : (bs : List ℕ) (es : List Edit) → All-built bs es → All-reach bs es → All (Good bs) es
-all-good bs es b r = all-from-getD (Good bs) es AddLayer (λ k l. (r k AddLayer l, b k AddLayer l))
+pub all-good : (bs : List ℕ) (es : List Edit) → All-built bs es → All-reach bs es → All-fits bs es → All (Good bs) es
+all-good bs es b r f = all-from-getD (Good bs) es AddLayer (λ k l. (r k AddLayer l, b k AddLayer l, known (edit-of bs (getD es k AddLayer)) (f k AddLayer l)))
 
 pub good-built : (bs : List ℕ) (es : List Edit) → All (Good bs) es → All-built bs es
 good-built bs es g k d l = all-getD (Good bs) es k d l g .1
@@ -74,9 +75,13 @@ good-built bs es g k d l = all-getD (Good bs) es k d l g .1
 pub good-reach : (bs : List ℕ) (es : List Edit) → All (Good bs) es → All-reach bs es
 good-reach bs es g k d l = all-getD (Good bs) es k d l g .0
 
+pub good-fits : (bs : List ℕ) (es : List Edit) → All (Good bs) es → All-fits bs es
+good-fits bs es g k d l = ∣ all-getD (Good bs) es k d l g .2 ∣₁
+
 good-grows : (bs more : List ℕ) (e : Edit) → Good bs e → Good (bs ++ more) e
 good-grows bs more e g =
-    (omega (arith, g .0, length-append bs more), subst (λ (m : page.Edit). built (kind m) ≡ true) (sym (edit-grows bs more e (g .0))) (g .1))
+    let same = sym (edit-grows bs more e (g .0)) in
+    (omega (arith, g .0, length-append bs more), subst (λ (m : page.Edit). built (kind m) ≡ true) same (g .1), subst Fits same (g .2))
 
 pub all-grow : (bs more : List ℕ) (es : List Edit) → All (Good bs) es → All (Good (bs ++ more)) es
 all-grow bs more es g = all-weaker (Good bs) (Good (bs ++ more)) (good-grows bs more) es g
@@ -104,11 +109,3 @@ history-put bs more es d e m l g is =
     = map-append (edit-of (bs ++ more)) (take d es) (e ∷ []) ∙ ap₂ (λ ms n. ms ++ n ∷ []) (meanings-grow bs more (take d es) (all-take (Good bs) d es g)) is in
     ap₂ (λ ds us. both (in-order (meanings (bs ++ more) ds) []) (meanings (bs ++ more) us)) all none
     ∙ ap (λ ms. both (in-order ms []) []) means ∙ ap (λ ds. both ds []) (in-order-push (meanings bs (take d es)) [] m)
-
--- the done edits in their order
-in-order-twice : (xs ys zs : List page.Edit) → in-order (in-order xs ys) zs ≡ in-order ys (xs ++ zs)
-in-order-twice [] ys zs = refl
-in-order-twice (x ∷ xs) ys zs = in-order-twice xs (x ∷ ys) zs
-
-pub done-in-order : (ms : List page.Edit) → in-order (in-order ms []) [] ≡ ms
-done-in-order ms = in-order-twice ms [] [] ∙ append-nil ms

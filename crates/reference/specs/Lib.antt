@@ -1,3 +1,5 @@
 pub mod Lists
 pub mod Making
 pub mod Turning
+pub mod Filing
+pub mod Shown

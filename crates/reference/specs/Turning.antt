@@ -13,14 +13,12 @@ use Rattle.std.specs.declared.result.Result.the-variants.{Ok, Err}
 use Rattle.page.specs.Edits as page
 use Rattle.page.specs.Edits.{Page, blank, after}
 use Rattle.page.specs.History.{History, Turn, does, turned, in-order, empty}
-use Rattle.page.specs.Fits.{Fits, kind}
 use Rattle.codec.specs.declared.edits.Turn.{Turn as Read}
 use Rattle.codec.specs.declared.edits.Lent.the-variants.{Tiles}
 use Rattle.codec.specs.declared.edits.Refusal.{Refusal}
 use Rattle.codec.specs.declared.edits.Refusal.the-variants.{NoSize, TooMany, Short}
 use Rattle.codec.specs.Meaning.{turn-of}
-use Rattle.codec.specs.Kinds.{built}
-use Rattle.codec.specs.Written.{written}
+use Rattle.codec.specs.Laws.{Edit-bytes}
 use Rattle.codec.specs.Read.{read-turn}
 use Rattle.canvas.specs.declared.state.Canvas.{Canvas}
 use Rattle.reference.specs.declared.state.Engine.{Engine}
@@ -71,20 +69,14 @@ pub record Moved (s : Engine) (t : Turn) (s′ : Engine) : Type 0 where
   pub one-taken : s′ .taken ≡ s .taken + 1
   pub history-next : history s′ ≡ turned (history s) t
 
--- the bytes are those of the edit e, of a kind that there is
-pub record Edit-bytes (bs : List ℕ) (e : page.Edit) : Type 0 where
-  pub fits : Fits e
-  pub is-built : built (kind e) ≡ true
-  pub is : bs ≡ written e
-
 -- the edit that the bytes are is done; or, without memory, nothing is
 abbrev pub Adds : List ℕ → Engine → Engine → Bool → Type 0
-Adds bs s s′ true = (e : page.Edit) → Edit-bytes bs e → Steps s (turned (history s) (does e)) s′
+Adds bs s s′ true = (e : page.Edit) → Edit-bytes bs e → Moved s (does e) s′
 Adds bs s s′ false = Steps s (history s) s′
 
 -- what a turn comes to, with memory for it and without
 abbrev pub Stepped : Turn → Engine → Engine → Bool → Type 0
-Stepped t s s′ true = Steps s (turned (history s) t) s′
+Stepped t s s′ true = Moved s t s′
 Stepped t s s′ false = Steps s (history s) s′
 
 -- a turn that is refused leaves the engine as it was; one that finds no memory leaves what it means

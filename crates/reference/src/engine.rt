@@ -2,13 +2,14 @@
 ghost use mathlib.Core.Path.{_≡_};
 ghost use mathlib.Core.Bool.{cond};
 ghost use mathlib.Core.List.{List, [], _∷_, _++_};
-ghost use Prim.Native.Nat.{ℕ, _+_, _≤_};
+ghost use Prim.Native.Nat.{ℕ, _+_, _<_, _≤_};
 ghost use lib.ListN.{length, take};
 ghost use Rattle.std.specs.Of.Vec.{vec-len, vec-items};
 ghost use Rattle.std.specs.Results.{isOk};
 ghost use Rattle.page.specs.Edits.{Edit as Model};
-ghost use Rattle.page.specs.History.{turned, undo as model-undo, redo as model-redo};
-ghost use Rattle.reference.specs.Turning.{history, against, size-refusal, Begins, Steps, Edit-bytes, Adds, Stepped, Turns, Remade};
+ghost use Rattle.page.specs.History.{undo as model-undo, redo as model-redo};
+ghost use Rattle.codec.specs.Laws.{Edit-bytes};
+ghost use Rattle.reference.specs.Turning.{history, against, size-refusal, Begins, Moved, Adds, Stepped, Turns, Remade};
 ghost use Rattle.std.specs.declared.option.Option.the-variants.{None};
 ghost use Rattle.codec.specs.Meaning.{turn-of};
 ghost use Rattle.codec.specs.Laws.{Taken};
@@ -81,7 +82,8 @@ impl Engine {
 
     // Does the edit that the bytes of a turn are.
     fn add(&mut self, turn: &[u8]) -> Result<(), AllocError>
-        requires { ⌜ ((e : Model) × Edit-bytes (now turn) e) ⌝ }
+        requires is { ⌜ ((e : Model) × Edit-bytes (now turn) e) ⌝ }
+        requires few { ⌜ now self .taken < 65536 ⌝ }
         ensures { λ r. ⌜ Adds (now (turn .entry)) (now (self .entry)) (now (self .exit)) (isOk r) ⌝ }
     {
         let at = self.bytes.len();
@@ -89,13 +91,16 @@ impl Engine {
         let (edit, _) = edit_at(self.bytes.as_slice(), at);
         put_behind(&mut self.edits, self.done, edit)?;
         self.done += 1;
+        self.taken += 1;
         Ok(())
     }
 
     // Takes back the last edit that is done, if there is one.
     fn undo(&mut self)
-        ensures { λ _. ⌜ Steps (now (self .entry)) (turned (history (now (self .entry))) model-undo) (now (self .exit)) ⌝ }
+        requires { ⌜ now self .taken < 65536 ⌝ }
+        ensures { λ _. ⌜ Moved (now (self .entry)) model-undo (now (self .exit)) ⌝ }
     {
+        self.taken += 1;
         if self.done > 0 {
             self.done -= 1;
         }
@@ -103,8 +108,10 @@ impl Engine {
 
     // Does again the last edit that was undone, if there is one.
     fn redo(&mut self)
-        ensures { λ _. ⌜ Steps (now (self .entry)) (turned (history (now (self .entry))) model-redo) (now (self .exit)) ⌝ }
+        requires { ⌜ now self .taken < 65536 ⌝ }
+        ensures { λ _. ⌜ Moved (now (self .entry)) model-redo (now (self .exit)) ⌝ }
     {
+        self.taken += 1;
         if self.done < self.edits.len() {
             self.done += 1;
         }
@@ -112,7 +119,8 @@ impl Engine {
 
     // What a turn that is taken does; false where there is no memory for it.
     fn step(&mut self, turn: Turn, bytes: &[u8]) -> bool
-        requires { ⌜ Taken (now bytes) None turn ⌝ }
+        requires is { ⌜ Taken (now bytes) None turn ⌝ }
+        requires few { ⌜ now self .taken < 65536 ⌝ }
         ensures { λ r. ⌜ Stepped (turn-of (now (bytes .entry)) turn) (now (self .entry)) (now (self .exit)) r ⌝ }
     {
         match turn {
@@ -138,7 +146,6 @@ impl Engine {
                 if !self.step(turn, bytes) {
                     return Err(Fault::NoMemory);
                 }
-                self.taken += 1;
                 Ok(())
             }
         }

@@ -2,7 +2,7 @@
 ghost use mathlib.Core.Path.{_≡_};
 ghost use Prim.Native.Nat.{_≤_};
 ghost use Rattle.std.specs.Of.Vec.{vec-len, vec-items};
-ghost use Rattle.reference.specs.Lists.{All-built, All-reach};
+ghost use Rattle.reference.specs.Lists.{All-built, All-reach, All-fits};
 use codec::edits::Edit;
 use codec::edits::Refusal;
 
@@ -17,9 +17,10 @@ pub struct Engine {
     pub done: usize,
     pub taken: usize,
     ghost sized: { (1 ≤ wide) × (wide ≤ 4096) × (1 ≤ high) × (high ≤ 4096) },
-    ghost counted: { (done ≤ vec-len edits) × (taken ≤ 65536) },
+    ghost counted: { (done ≤ vec-len edits) × (vec-len edits ≤ taken) × (taken ≤ 65536) },
     ghost kinds: { All-built (vec-items bytes) (vec-items edits) },
     ghost reaches: { All-reach (vec-items bytes) (vec-items edits) },
+    ghost fit: { All-fits (vec-items bytes) (vec-items edits) },
 }
 
 // Why a turn was not taken: it is refused, or there was no memory for it.

@@ -2,3 +2,5 @@ pub mod Split
 pub mod Digits
 pub mod Table
 pub mod Lines
+pub mod Script
+pub mod Printing

@@ -13,13 +13,14 @@ use Rattle.codec.specs.Read.{edit-and-end}
 use Rattle.codec.specs.Laws.{Edit-good}
 use Rattle.reference.specs.declared.state.Engine.{Engine}
 use Rattle.reference.specs.Lists.{history-of}
-use Rattle.reference.specs.Turning.{Edit-bytes}
-use Rattle.reference.proofs.Listing.{Good, all-good, good-built, good-reach, all-grow, history-grows, all-put, history-put}
+use Rattle.codec.specs.Laws.{Edit-bytes}
+
+use Rattle.reference.proofs.Listing.{Good, all-good, good-built, good-reach, good-fits, all-grow, history-grows, all-put, history-put}
 use Rattle.reference.proofs.Adding.{read-behind, new-good, not-added}
 use Rattle.reference.proofs.state.Engine.add.Needs as need
 
 good-of : (s : Engine) → All (Good (vec-items (s .bytes))) (vec-items (s .edits))
-good-of s = all-good (vec-items (s .bytes)) (vec-items (s .edits)) (s .kinds) (s .reaches)
+good-of s = all-good (vec-items (s .bytes)) (vec-items (s .edits)) (s .kinds) (s .reaches) (s .fit)
 
 pub returns-in-Break-extend-from-slice : need.returns-in-Break-extend-from-slice
 returns-in-Break-extend-from-slice c =
@@ -34,7 +35,7 @@ ghost-self-in-Break·-branch-2 c =
     let edits = c .in-Break-put-behind .ensures tt .items in
     let good : All (Good (vec-items (c .extend-from-slice .last .self))) (vec-items (c .put-behind .last .edits))
     = subst₂ (λ b e. All (Good b) e) (sym bytes) (sym edits) (all-grow (vec-items (s .bytes)) (c .args .turn .now) (vec-items (s .edits)) (good-of s)) in
-    (s .sized, ((omega (arith, s .counted, c .in-Break-put-behind .ensures tt .len), s .counted .1), (good-built _ _ good, (good-reach _ _ good, tt))))
+    (s .sized, ((omega (arith, s .counted, c .in-Break-put-behind .ensures tt .len), omega (arith, s .counted, c .in-Break-put-behind .ensures tt .len), s .counted .2), (good-built _ _ good, (good-reach _ _ good, (good-fits _ _ good, tt)))))
 
 pub returns-in-Break-put-behind : need.returns-in-Break-put-behind
 returns-in-Break-put-behind c =
@@ -62,12 +63,12 @@ ghost-self-2 c =
     let bytes = c .in-Continue-extend-from-slice .ensures tt .items in
     let edits = c .in-Continue-put-behind .ensures tt .items in
     let is = c .as-slice .ensures .value ∙ bytes in
-    let means = new-means bs turn (c .as-slice .result .now) (c .len-at .result) x is (c .len-at .ensures ∙ s .bytes .ok .0) (c .edit-at-edit .ensures .is) (c .pre .0) (c .pre .1) in
+    let means = new-means bs turn (c .as-slice .result .now) (c .len-at .result) x is (c .len-at .ensures ∙ s .bytes .ok .0) (c .edit-at-edit .ensures .is) (c .pre .is .0) (c .pre .is .1) in
     let new : Good (bs ++ turn) (x .0)
-    = new-good (bs ++ turn) (x .0) (c .pre .0) (subst (λ (b : List ℕ). Edit-good b (x .0)) is (c .edit-at-edit .ensures .good)) means (c .pre .1 .is-built) in
+    = new-good (bs ++ turn) (x .0) (c .pre .is .0) (subst (λ (b : List ℕ). Edit-good b (x .0)) is (c .edit-at-edit .ensures .good)) means (c .pre .is .1 .is-built) in
     let good : All (Good (vec-items (c .extend-from-slice .last .self))) (vec-items (c .put-behind .last .edits))
     = subst₂ (λ b e. All (Good b) e) (sym bytes) (sym edits) (all-put bs turn (vec-items (s .edits)) (s .done) (x .0) (good-of s) new) in
-    (s .sized, ((omega (arith, c .in-Continue-put-behind .ensures tt .len), s .counted .1), (good-built _ _ good, (good-reach _ _ good, tt))))
+    (s .sized, ((omega (arith, c .in-Continue-put-behind .ensures tt .len), omega (arith, s .counted, c .in-Continue-put-behind .ensures tt .len), omega (arith, c .pre .few)), (good-built _ _ good, (good-reach _ _ good, (good-fits _ _ good, tt)))))
 
 pub returns : need.returns
 returns c = λ e b.
@@ -81,7 +82,7 @@ returns c = λ e b.
     record {
       same-wide = refl;
       same-high = refl;
-      same-taken = refl;
-      history-is = ap₂ (λ l m. history-of l m (s .done + 1)) bytes edits
+      one-taken = refl;
+      history-next = ap₂ (λ l m. history-of l m (s .done + 1)) bytes edits
           ∙ history-put bs turn (vec-items (s .edits)) (s .done) (x .0) e (omega (arith, s .counted, s .edits .ok .0)) (good-of s) means;
     }

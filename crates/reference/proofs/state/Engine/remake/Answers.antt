@@ -13,7 +13,8 @@ use Rattle.codec.specs.declared.edits.Edit.{Edit}
 use Rattle.canvas.specs.Applying.{Built}
 use Rattle.reference.specs.Lists.{meanings}
 use Rattle.reference.specs.Making.{Replayed}
-use Rattle.reference.proofs.Listing.{Good, all-good, done-in-order}
+use Rattle.page.proofs.Undo.{done-in-order}
+use Rattle.reference.proofs.Listing.{Good, all-good}
 use Rattle.reference.proofs.state.Engine.remake.Needs as need
 
 pub replay-requires : need.replay-requires
@@ -22,7 +23,7 @@ replay-requires c κs =
     let bs = vec-items (s .bytes) in
     let es = vec-items (s .edits) in
     let built : All (Built bs) (take (s .done - 0) es)
-    = all-take (Built bs) (s .done - 0) es (all-weaker (Good bs) (Built bs) (λ e g. g .1) es (all-good bs es (s .kinds) (s .reaches))) in (
+    = all-take (Built bs) (s .done - 0) es (all-weaker (Good bs) (Built bs) (λ e g. g .1) es (all-good bs es (s .kinds) (s .reaches) (s .fit))) in (
       record { some-wide = s .sized .0; most-wide = s .sized .1; some-high = s .sized .2; most-high = s .sized .3; enough = omega (arith, c .area .ensures .is) },
       subst₂ (λ b e. All (Built b) (take (s .done - 0) e)) (sym (c .as-slice .ensures .value)) (sym (c .as-slice-edits .ensures .value)) built,
     )

@@ -7,4 +7,4 @@ use Rattle.reference.proofs.state.Engine.undo.Needs as need
 pub returns-then-self-gt0 : need.returns-then-self-gt0
 returns-then-self-gt0 c =
     let s = c .args .self .now in
-    record { same-wide = refl; same-high = refl; same-taken = refl; history-is = undone (vec-items (s .bytes)) (vec-items (s .edits)) (s .done) (omega arith) (omega (arith, s .counted, s .edits .ok .0)) }
+    record { same-wide = refl; same-high = refl; one-taken = refl; history-next = undone (vec-items (s .bytes)) (vec-items (s .edits)) (s .done) (omega arith) (omega (arith, s .counted, s .edits .ok .0)) }
