@@ -100,6 +100,13 @@ module _ (bs : List ℕ) (lent : Lengths) (w h : ℕ) (done undone : List page.E
       ∙ (sized-ok bs 6 h _ (omega arith) height-is (f .high .0) (f .high .1)
       ∙ rw (width-is, height-is) (ap (unless (short-of lent w h)) (cond-true _ _ _ (le-leb (0 + 16) (length bs) (omega arith)))))))))
 
+  pub file-is : (file-at bs .width ≡ w) × (file-at bs .height ≡ h) × (done-of bs (file-at bs) ≡ done) × (undone-of bs (file-at bs) ≡ undone)
+  file-is =
+      let one = from-written bs done 16 (all-written undone) (f .fit .0) rest in
+      let two′ = from-written bs undone (16 + length (all-written done)) [] (f .fit .1) next in
+      let same : (done-of bs (file-at bs) ≡ done) × (undone-of bs (file-at bs) ≡ undone) = rw (done-is, undone-is) (one .0, rw (one .1) (two′ .0)) in
+      (width-is, height-is, same .0, same .1)
+
   -- how they are scanned
   abbrev Whole : End → Type 0
   Whole x =
@@ -219,12 +226,6 @@ read-file-means bs lent r e fit =
 pub file-written-read : File-written-read
 file-written-read bs lent w h done undone is b c en = by-end (on-ok (head-end bs lent) (body-from bs (lent .turns))) (file-scanned bs lent w h done undone is)
   where
-    same : (done-of bs (file-at bs) ≡ done) × (undone-of bs (file-at bs) ≡ undone)
-    same =
-        let one = from-written bs done 16 (all-written undone) (is .fit .0) (rest bs lent w h done undone is) in
-        let two′ = from-written bs undone (16 + length (all-written done)) [] (is .fit .1) (next bs lent w h done undone is) in
-        rw (done-is bs lent w h done undone is, undone-is bs lent w h done undone is) (one .0, rw (one .1) (two′ .0))
-
     by-end : (x : End) → Whole bs lent w h done undone is x →
         Cases (whole-file bs x) (λ f. (f .width ≡ w) × (f .height ≡ h) × (done-of bs f ≡ done) × (undone-of bs f ≡ undone)) (λ f. ⊥)
     by-end (Err f) (inl s) = s .1 en
@@ -233,7 +234,21 @@ file-written-read bs lent w h done undone is b c en = by-end (on-ok (head-end bs
         let P : Result File Refusal → Type 0 = λ r. Cases r (λ f. (f .width ≡ w) × (f .height ≡ h) × (done-of bs f ≡ done) × (undone-of bs f ≡ undone)) (λ f. ⊥) in
         cond-both (ltb n (length bs)) _ _ P
         (λ t. omega (arith, ltb-true n (length bs) t))
-        (λ t. (width-is bs lent w h done undone is, height-is bs lent w h done undone is, same .0, same .1))
+        (λ t. file-is bs lent w h done undone is)
+
+-- bytes that are a file, where they are read, are read as that file
+pub file-read-is :
+    (bs : List ℕ) (lent : Lengths) (w h : ℕ) (done undone : List page.Edit) (f : File) → Is-file bs w h done undone → read-file bs lent ≡ Ok f →
+    (f .width ≡ w) × (f .height ≡ h) × (done-of bs f ≡ done) × (undone-of bs f ≡ undone)
+file-read-is bs lent w h done undone f is read =
+    let P : File → Type 0 = λ g. (g .width ≡ w) × (g .height ≡ h) × (done-of bs g ≡ done) × (undone-of bs g ≡ undone) in
+    subst P (of-whole (on-ok (head-end bs lent) (body-from bs (lent .turns))) read) (file-is bs lent w h done undone is)
+  where
+    of-whole : (x : End) → whole-file bs x ≡ Ok f → file-at bs ≡ f
+    of-whole (Err g) e = let z : _≡_ {A = ℕ} 0 1 = cc in absurd (omega arith)
+    of-whole (Ok n) e =
+        let P : Result File Refusal → Type 0 = λ r. r ≡ Ok f → file-at bs ≡ f in
+        cond-both (ltb n (length bs)) _ _ P (λ t g. let z : _≡_ {A = ℕ} 0 1 = cc in absurd (omega arith)) (λ t g. cc) e
 
 -- the scan, step by step, as the reader goes, and what it means
 abbrev pub Answered : List ℕ → Lengths → Result File Refusal → Type 0

@@ -1,5 +1,6 @@
 // The plain engine as a program: it takes turns from standard input, one to a line, and prints the page.
 ghost use Prim.Native.Nat.{_≤_};
+ghost use Rattle.std.specs.Slices.{found};
 use canvas::layout::area;
 use codec::edits::Lent;
 use codec::edits::Refusal;
@@ -13,6 +14,7 @@ use std::io;
 use std::io::Read;
 use std::io::Write;
 use words::call::Call;
+use words::call::SIZE;
 use words::call::Source;
 use words::call::read_call;
 use words::saving::save;
@@ -56,9 +58,9 @@ fn take_turns(rt: &LibcRuntime, engine: &mut Engine) -> io::Result<bool> {
 
 // Does what the call asks for; false where something was refused, as it then says.
 fn run(rt: &LibcRuntime, call: Call) -> io::Result<bool>
-    requires { ⌜ call .size ≤ 4096 ⌝ }
+    requires { ⌜ found (call .size) (λ n. n ≤ 4096) ⌝ }
 {
-    let mut engine = match begin(rt, call.source, call.size)? {
+    let mut engine = match begin(rt, call.source, call.size.unwrap_or(SIZE))? {
         Ok(engine) => engine,
         Err(Fault::NoMemory) => return Err(io::Error::from(io::ErrorKind::OutOfMemory)),
         Err(Fault::Refused(why)) => {

@@ -24,11 +24,15 @@ enum Wanted<'a> {
     Ppm(&'a str),
 }
 
-// The size that the last arguments ask for, and the arguments before them.
+// The size that the first or the last two arguments ask for, and the others.
 fn split_size(args: &[String]) -> Option<(&[String], usize)>
     ensures { λ r. ⌜ found r (λ p. p .1 ≤ 4096) ⌝ }
 {
     let count = args.len();
+    if count >= 2 && args[0].as_str() == "--size" {
+        let size = read_size(args[1].as_str())?;
+        return Some((&args[2..], size));
+    }
     if count >= 2 && args[count - 2].as_str() == "--size" {
         let size = read_size(args[count - 1].as_str())?;
         return Some((&args[..count - 2], size));
@@ -36,22 +40,30 @@ fn split_size(args: &[String]) -> Option<(&[String], usize)>
     Some((args, SIZE))
 }
 
-// The file, and what of it is wanted.
-fn read_wanted(args: &[String]) -> Option<(&str, Wanted<'_>)> {
+// What the others ask for.
+fn read_wanted(args: &[String]) -> Option<Wanted<'_>> {
+    if args.is_empty() {
+        return Some(Wanted::Text);
+    }
+    if args.len() == 1 && args[0].as_str() == "--edits" {
+        return Some(Wanted::Edits);
+    }
+    if args.len() == 2 && args[0].as_str() == "--ppm" {
+        return Some(Wanted::Ppm(args[1].as_str()));
+    }
+    None
+}
+
+// The file, what of it is shown, and how large its page may be.
+fn read_args(args: &[String]) -> Option<(&str, Wanted<'_>, usize)>
+    ensures { λ r. ⌜ found r (λ p. p .2 ≤ 4096) ⌝ }
+{
     if args.is_empty() {
         return None;
     }
-    let path = args[0].as_str();
-    if args.len() == 1 {
-        return Some((path, Wanted::Text));
-    }
-    if args.len() == 2 && args[1].as_str() == "--edits" {
-        return Some((path, Wanted::Edits));
-    }
-    if args.len() == 3 && args[1].as_str() == "--ppm" {
-        return Some((path, Wanted::Ppm(args[2].as_str())));
-    }
-    None
+    let (rest, size) = split_size(&args[1..])?;
+    let wanted = read_wanted(rest)?;
+    Some((args[0].as_str(), wanted, size))
 }
 
 fn show(rt: &LibcRuntime, engine: &Engine, wanted: Wanted) -> io::Result<()> {
@@ -94,11 +106,7 @@ fn main(rt: LibcRuntime) -> io::Result<()> {
     for arg in env::args(&rt)?.skip(1) {
         args.push(arg)?;
     }
-    let Some((rest, size)) = split_size(args.as_slice()) else {
-        eprintln!(rt, "{USAGE}")?;
-        return Err(io::Error::from(io::ErrorKind::InvalidInput));
-    };
-    let Some((path, wanted)) = read_wanted(rest) else {
+    let Some((path, wanted, size)) = read_args(args.as_slice()) else {
         eprintln!(rt, "{USAGE}")?;
         return Err(io::Error::from(io::ErrorKind::InvalidInput));
     };

@@ -1,0 +1,5 @@
+use Rattle.editor.proofs.Theorems.{outside-stays}
+use Rattle.editor.proofs.laws.outside_stays.Needs as need
+
+pub returns : need.returns
+returns c = outside-stays
