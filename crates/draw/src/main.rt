@@ -1,5 +1,6 @@
 // The editor as a program: it takes turns from standard input, one to a line, and prints the page.
 ghost use Prim.Native.Nat.{_≤_};
+ghost use Rattle.std.specs.Slices.{found};
 use canvas::layout::area;
 use codec::edits::Refusal;
 use editor::desk::Desk;
@@ -15,6 +16,7 @@ use std::io;
 use std::io::Read;
 use std::io::Write;
 use words::call::Call;
+use words::call::SIZE;
 use words::call::Source;
 use words::call::read_call;
 use words::printing::print;
@@ -51,12 +53,24 @@ fn lend(heap: Global, pixels: usize, turns: usize) -> Result<Lent, AllocError>
 }
 
 // A page begun in memory for at most `most` pixels, and for `lines` turns.
-fn begin(heap: Global, wide: usize, high: usize, most: usize, lines: usize) -> Result<Result<Desk, Refusal>, AllocError>
+fn begin(
+    heap: Global,
+    wide: usize,
+    high: usize,
+    most: usize,
+    lines: usize,
+) -> Result<Result<Desk, Refusal>, AllocError>
     requires { ⌜ most ≤ 16777216 ⌝ }
 {
     let pixels = area(wide.min(4096), high.min(4096)).min(most);
     let mut lent = lend(heap, pixels, lines.min(TURNS))?;
-    match editing::begin(wide, high, lent.turns.as_mut_slice(), lent.tiles.as_mut_slice(), lent.work.as_mut_slice()) {
+    match editing::begin(
+        wide,
+        high,
+        lent.turns.as_mut_slice(),
+        lent.tiles.as_mut_slice(),
+        lent.work.as_mut_slice(),
+    ) {
         Err(why) => Ok(Err(why)),
         Ok(editor) => Ok(Ok(Desk {
             editor,
@@ -80,12 +94,22 @@ fn pixels_of(file: &[u8]) -> usize
 }
 
 // A page read from a file. Each edit has a byte at least, so that there are no more than bytes.
-fn open(heap: Global, file: &[u8], most: usize, lines: usize) -> Result<Result<Desk, Refusal>, AllocError>
+fn open(
+    heap: Global,
+    file: &[u8],
+    most: usize,
+    lines: usize,
+) -> Result<Result<Desk, Refusal>, AllocError>
     requires { ⌜ most ≤ 16777216 ⌝ }
 {
     let turns = file.len().saturating_add(lines).min(TURNS);
     let mut lent = lend(heap, pixels_of(file).min(most), turns)?;
-    match files::read(file, lent.turns.as_mut_slice(), lent.tiles.as_mut_slice(), lent.work.as_mut_slice()) {
+    match files::read(
+        file,
+        lent.turns.as_mut_slice(),
+        lent.tiles.as_mut_slice(),
+        lent.work.as_mut_slice(),
+    ) {
         Err(why) => Ok(Err(why)),
         Ok(editor) => Ok(Ok(Desk {
             editor,
@@ -108,11 +132,16 @@ fn lines_in(script: &[u8]) -> usize {
 }
 
 // The page that the call begins with, or why it is refused.
-fn start(rt: &LibcRuntime, call: Call, lines: usize) -> io::Result<Result<Desk, Refusal>>
-    requires { ⌜ call .size ≤ 4096 ⌝ }
+fn start(
+    rt: &LibcRuntime,
+    source: Source,
+    size: usize,
+    lines: usize,
+) -> io::Result<Result<Desk, Refusal>>
+    requires { ⌜ size ≤ 4096 ⌝ }
 {
-    let most = area(call.size, call.size);
-    match call.source {
+    let most = area(size, size);
+    match source {
         Source::New { wide, high } => Ok(begin(rt.alloc(), wide, high, most, lines)?),
         Source::Open(path) => {
             let file = fs::read(rt, path)?;
@@ -137,11 +166,16 @@ fn save_page(rt: &LibcRuntime, desk: &Desk, path: &str) -> io::Result<()> {
 
 // Does what the call asks for; false where something was refused, as it then says.
 fn run(rt: &LibcRuntime, call: Call) -> io::Result<bool>
-    requires { ⌜ call .size ≤ 4096 ⌝ }
+    requires { ⌜ found (call .size) (λ n. n ≤ 4096) ⌝ }
 {
     let mut script = Vec::new(rt.alloc());
     rt.stdin().read_to_end(&mut script)?;
-    let mut desk = match start(rt, call, lines_in(script.as_slice()))? {
+    let mut desk = match start(
+        rt,
+        call.source,
+        call.size.unwrap_or(SIZE),
+        lines_in(script.as_slice()),
+    )? {
         Ok(desk) => desk,
         Err(why) => {
             let text = refused_text(rt.alloc(), why)?;
@@ -152,7 +186,13 @@ fn run(rt: &LibcRuntime, call: Call) -> io::Result<bool>
     let mut messages = String::new(rt.alloc());
     let all = running::run(rt.alloc(), &mut desk, script.as_slice(), &mut messages)?;
     eprint!(rt, "{messages}")?;
-    let text = print(rt.alloc(), Format::Text, &desk, desk.editor.canvas.wide, desk.editor.canvas.high)?;
+    let text = print(
+        rt.alloc(),
+        Format::Text,
+        &desk,
+        desk.editor.canvas.wide,
+        desk.editor.canvas.high,
+    )?;
     rt.stdout().write_all(text.as_slice())?;
     if let Some(path) = call.save {
         save_page(rt, &desk, path)?;

@@ -78,10 +78,10 @@ module _ (w h px lt ll lw : ℕ) where
       let next : Comes w h (ts ++ u ∷ []) m = takes ts u d m (way .comes) (info .fits) (info .is-built) (subst (λ (b : List ℕ). Takes d b m (Ok tt)) (info .is) tk) in
       let far : Comes w h ((ts ++ u ∷ []) ++ taken-of g (n + 1) rest) q
       = on (ts ++ u ∷ []) (n + 1) (record {
-          comes = next;
-          counts = s .one-taken ∙ ap (λ k. k + 1) (way .counts);
-          limits = record { px-is = ap₂ _*_ (s .same-wide) (s .same-high) ∙ l .px-is; turns-are = s .turns-long ∙ l .turns-are; tiles-are = s .tiles-long ∙ l .tiles-are; work-is = s .work-long ∙ l .work-is };
-        }) in
+        comes = next;
+        counts = s .one-taken ∙ ap (λ k. k + 1) (way .counts);
+        limits = record { px-is = ap₂ _*_ (s .same-wide) (s .same-high) ∙ l .px-is; turns-are = s .turns-long ∙ l .turns-are; tiles-are = s .tiles-long ∙ l .tiles-are; work-is = s .work-long ∙ l .work-is };
+      }) in
       subst (λ (us : List Turn). Comes w h us q) (append-assoc ts (u ∷ []) (taken-of g (n + 1) rest)) far
   taken-on bs rest d m q ts n (Err f) bytes tk on way is e = absurd (ok-err f (e .0))
 
@@ -116,5 +116,5 @@ pub runs-row : (script : List ℕ) (p q : Desk) (old new : List ℕ) (ok : Bool)
 runs-row script p q old new ok e w h ts c =
     let d = desk-of p in
     let far = lines-on w h (pixels (p .editor)) (length (d .turns)) (length (d .tiles)) (length (d .work)) (lines-of script) 1 p q old new ok e ts (p .editor .taken)
-      (record { comes = c; counts = refl; limits = record { px-is = refl; turns-are = refl; tiles-are = refl; work-is = refl } }) in
+    (record { comes = c; counts = refl; limits = record { px-is = refl; turns-are = refl; tiles-are = refl; work-is = refl } }) in
     record { comes = far; shows = λ i j iw jh. shows-the-page w h i j (ts ++ row d script) (desk-of q) far iw jh }

@@ -1,6 +1,7 @@
 // The plain engine as programs use it: it takes the turns of a script, and what it made is printed.
 ghost use mathlib.Core.Path.{_≡_};
-ghost use mathlib.Core.List.{_++_, map};
+ghost use mathlib.Core.List.{_++_};
+ghost use Prim.Native.Nat.{_≤_};
 ghost use Rattle.std.specs.Of.Vec.{vec-items};
 ghost use Rattle.std.specs.Joined.{joined};
 ghost use Rattle.std.specs.Vec.{made};
@@ -12,7 +13,6 @@ ghost use Rattle.page.specs.Edits.{seen};
 ghost use Rattle.words.specs.Printing.{printed};
 ghost use Rattle.reference.specs.Turning.{Turns, page-of};
 ghost use Rattle.reference.specs.Shown.{answer, or-white, lent-for, edit-line, edits-text};
-ghost use Prim.Native.Nat.{_≤_};
 use crate::seeing::seen_pixel;
 use crate::state::Engine;
 use crate::state::Fault;

@@ -5,3 +5,4 @@ pub mod Reading
 pub mod Going
 pub mod Playing
 pub mod Pieces
+pub mod Arguments

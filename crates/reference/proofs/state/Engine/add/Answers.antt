@@ -14,7 +14,6 @@ use Rattle.codec.specs.Laws.{Edit-good}
 use Rattle.reference.specs.declared.state.Engine.{Engine}
 use Rattle.reference.specs.Lists.{history-of}
 use Rattle.codec.specs.Laws.{Edit-bytes}
-
 use Rattle.reference.proofs.Listing.{Good, all-good, good-built, good-reach, good-fits, all-grow, history-grows, all-put, history-put}
 use Rattle.reference.proofs.Adding.{read-behind, new-good, not-added}
 use Rattle.reference.proofs.state.Engine.add.Needs as need
