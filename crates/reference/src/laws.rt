@@ -2,8 +2,6 @@
 ghost use Rattle.reference.specs.Filing.{Kept-in-files};
 
 // A page that is written to a file and opened again has the same history.
-pub fn kept_in_files() -> u8
+pub fn kept_in_files()
     ensures { λ _. ⌜ Kept-in-files ⌝ }
-{
-    0
-}
+{}
