@@ -27,8 +27,8 @@ use Rattle.canvas.specs.View.{plane-at, selection-at, clipboard-at, fresh, no-
 pub plane-in : (n k : ℕ) → k < 64 → plane-at n k + 4 * n ≤ 256 * n
 plane-in n k l = omega (arith, mul-le n (k + 1) n 64 (le-refl n) (omega arith))
 
-pub planes-apart : (n k m q : ℕ) → k ≢ m → q < n → (plane-at n k + 4 * q + 4 ≤ plane-at n m) ⊎ (plane-at n m + 4 * n ≤ plane-at n k + 4 * q)
-planes-apart n k m q ne l =
+pub two-planes : (n k m : ℕ) → k ≢ m → (plane-at n k + 4 * n ≤ plane-at n m) ⊎ (plane-at n m + 4 * n ≤ plane-at n k)
+two-planes n k m ne =
     elim (cases-order k m) [
       | inl e ↦ absurd (ne e)
       | inr o ↦ elim o [
@@ -36,6 +36,9 @@ planes-apart n k m q ne l =
         | inr gt ↦ inr (omega (arith, mul-le n (m + 1) n k (le-refl n) (omega arith)))
       ]
     ]
+
+pub planes-apart : (n k m q : ℕ) → k ≢ m → q < n → (plane-at n k + 4 * q + 4 ≤ plane-at n m) ⊎ (plane-at n m + 4 * n ≤ plane-at n k + 4 * q)
+planes-apart n k m q ne l = elim (two-planes n k m ne) [ inl u ↦ inl (omega arith) | inr u ↦ inr (omega arith) ]
 
 module _ (s : Canvas) where
   abbrev w : ℕ

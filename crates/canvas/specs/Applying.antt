@@ -22,7 +22,9 @@ Built bs e = built (kind (edit-of bs e)) ≡ true
 abbrev pub known : page.Edit → page.Edit
 known e = cond (built (kind e)) e (set-mode 255)
 
--- the page is the one before, edited
-pub record Applied (s : Canvas) (e : page.Edit) (xs ys : List ℕ) : Type 0 where
-  pub agrees : Agree (view s ys) (edited (view s xs) e)
+-- the page is the one before, edited, and of the same size
+pub record Applied (s : Canvas) (e : page.Edit) (xs : List ℕ) (t : Canvas) (ys : List ℕ) : Type 0 where
+  pub agrees : Agree (view t ys) (edited (view s xs) e)
+  pub same-wide : t .wide ≡ s .wide
+  pub same-high : t .high ≡ s .high
   pub long : length ys ≡ length xs

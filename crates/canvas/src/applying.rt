@@ -12,11 +12,19 @@ use crate::state::Rect;
 use codec::edits::Edit;
 
 // One edit, if it is of a kind that there is; `source` holds its points or numbers.
-pub fn apply(canvas: &Canvas, tiles: &mut [u8], edit: Edit, source: &[u8])
+pub fn apply(canvas: &mut Canvas, tiles: &mut [u8], edit: Edit, source: &[u8])
     requires { ⌜ 544 * (now canvas .wide * now canvas .high) ≤ length (now tiles) ⌝ }
-    ensures { λ _. ⌜ Applied (now (canvas .entry)) (known (edit-of (now (source .entry)) edit)) (now (tiles .entry)) (now (tiles .exit)) ⌝ }
+    ensures { λ _. ⌜ Applied (now (canvas .entry)) (known (edit-of (now (source .entry)) edit)) (now (tiles .entry)) (now (canvas .exit)) (now (tiles .exit)) ⌝ }
 {
     match edit {
+        Edit::AddLayer => canvas.add_layer(tiles),
+        Edit::DropLayer => canvas.drop_layer(),
+        Edit::ChooseLayer(k) => canvas.choose_layer(k),
+        Edit::RaiseLayer => canvas.raise_layer(),
+        Edit::SetMode(m) => canvas.set_mode(m),
+        Edit::SetOpacity(a) => canvas.set_opacity(a),
+        Edit::SetVisible(b) => canvas.set_visible(b),
+        Edit::MergeDown => canvas.merge_down(tiles),
         Edit::SelectAll => canvas.select_all(tiles),
         Edit::SelectRect {
             x,
@@ -34,7 +42,11 @@ pub fn apply(canvas: &Canvas, tiles: &mut [u8], edit: Edit, source: &[u8])
         ),
         Edit::SelectInverse => canvas.select_inverse(tiles),
         Edit::Fill(p) => canvas.fill_selected(tiles, p),
-        _ => {}
+        Edit::SelectSimilar { .. }
+        | Edit::Stroke { .. }
+        | Edit::ApplyFilter(_)
+        | Edit::Copy
+        | Edit::Paste { .. } => {}
     }
 }
 
@@ -43,10 +55,11 @@ pub fn is_known(edit: Edit) -> bool
     ensures { λ r. ⌜ ((bs : List ℕ) → r ≡ built (kind (edit-of bs edit))) ⌝ }
 {
     match edit {
-        Edit::SelectAll => true,
-        Edit::SelectRect { .. } => true,
-        Edit::SelectInverse => true,
-        Edit::Fill(_) => true,
-        _ => false,
+        Edit::SelectSimilar { .. }
+        | Edit::Stroke { .. }
+        | Edit::ApplyFilter(_)
+        | Edit::Copy
+        | Edit::Paste { .. } => false,
+        _ => true,
     }
 }

@@ -1,8 +1,8 @@
 -- The kinds of edits that there are yet: one place, for code and contracts. Assumes nothing.
 use mathlib.Core.Bool.{Bool, _||_}
 use Prim.Native.Nat.{ℕ}
-use lib.Dec.{eqb}
+use lib.Dec.{ltb, eqb}
 
--- select all, a rectangle, the inverse; fill
+-- those of the layers; select all, a rectangle, the inverse; fill
 abbrev pub built : ℕ → Bool
-built k = (eqb k 8 || eqb k 9) || (eqb k 11 || eqb k 12)
+built k = ltb k 10 || (eqb k 11 || eqb k 12)

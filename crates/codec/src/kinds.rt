@@ -6,5 +6,5 @@ ghost use Rattle.codec.specs.Kinds.{built};
 pub fn is_built(kind: u8) -> bool
     ensures { λ r. ⌜ r ≡ built kind ⌝ }
 {
-    ((kind == 8) | (kind == 9)) | ((kind == 11) | (kind == 12))
+    (kind < 10) | ((kind == 11) | (kind == 12))
 }

@@ -101,23 +101,24 @@ pub edits-kept : (xs ys : List ℕ) (a n : ℕ) → ((j : ℕ) → j < a + n →
 edits-kept xs ys a zero same = refl
 edits-kept xs ys a (suc n) same = ap₂ (λ e es. e ∷ es) (same a (omega arith)) (edits-kept xs ys (suc a) n (λ j l. same j (omega arith)))
 
-pub did-edit : (bs turns turns′ tiles mid tiles′ : List ℕ) (s : Canvas) (c : Counts) (e f : Edit) → Edit-bytes bs e → Slot-put bs (c .done) turns turns′ → f ≡ slot-edit turns′ (c .done) → Applied s f tiles mid → All-built s mid tiles′ →
-    Moved (does e) s c turns tiles s (record { done = c .done + 1; undone = 0 }) turns′ tiles′
-did-edit bs turns turns′ tiles mid tiles′ s c e f b put is applied all =
+pub did-edit : (bs turns turns′ tiles mid tiles′ : List ℕ) (s t : Canvas) (c : Counts) (e f : Edit) → Edit-bytes bs e → Slot-put bs (c .done) turns turns′ → f ≡ slot-edit turns′ (c .done) → Applied s f tiles t mid → All-built t mid tiles′ →
+    Moved (does e) s c turns tiles t (record { done = c .done + 1; undone = 0 }) turns′ tiles′
+did-edit bs turns turns′ tiles mid tiles′ s t c e f b put is applied all =
     let d = c .done in
     let new : slot-edit turns′ d ≡ e = put .here e b in
     let old : latest-in turns′ d ≡ latest-in turns d = latest-kept turns turns′ d (λ j l. put .others j (λ x. omega arith)) in
     let row : latest-in turns′ (d + 1) ≡ e ∷ latest-in turns d = ap (latest-in turns′) (add-one d) ∙ ap₂ (λ x xs. x ∷ xs) new old in
     record {
-      same-wide = refl;
-      same-high = refl;
+      same-wide = applied .same-wide;
+      same-high = applied .same-high;
       turns-long = put .long;
       tiles-long = all .wrote .long ∙ applied .long;
       few = omega arith;
       history-next = ap (λ (es : List Edit). let b : History = record { done = es; undone = [] } in b) row;
-      holds-next = λ held. subst (λ (es : List Edit). Holds s es tiles′) (sym row)
-          (all-hold s (e ∷ latest-in turns d) mid tiles′
-          (made-more (s .wide) (s .high) (latest-in turns d) e (view s tiles) (view s mid) (held .agrees) (subst (λ (x : Edit). Agree (view s mid) (edited (view s tiles) x)) (is ∙ new) (applied .agrees))) all);
+      holds-next = λ held. subst (λ (es : List Edit). Holds t es tiles′) (sym row)
+          (all-hold t (e ∷ latest-in turns d) mid tiles′
+          (subst₂ (λ w h. Agree (view t mid) (made-by w h (e ∷ latest-in turns d))) (sym (applied .same-wide)) (sym (applied .same-high))
+          (made-more (s .wide) (s .high) (latest-in turns d) e (view s tiles) (view t mid) (held .agrees) (subst (λ (x : Edit). Agree (view t mid) (edited (view s tiles) x)) (is ∙ new) (applied .agrees)))) all);
     }
 
 -- ROWS OF SLOTS: one more at the end, two rows joined, and the done edits in their order

@@ -54,14 +54,14 @@ pub fn redo(canvas: &mut Canvas, counts: Counts, turns: &[u8], tiles: &mut [u8])
 
 // Does a new edit, by its bytes, and forgets what was undone.
 pub fn do_edit(
-    canvas: &Canvas,
+    canvas: &mut Canvas,
     counts: Counts,
     turns: &mut [u8],
     tiles: &mut [u8],
     bytes: &[u8],
 ) -> Counts
     requires { ⌜ Lends (now canvas) counts (now turns) (now tiles) ⌝ ∗ ⌜ ((e : Model) × Edit-bytes (now bytes) e) ⌝ }
-    ensures { λ r. ⌜ ((e : Model) → Edit-bytes (now (bytes .entry)) e → Moved (does e) (now (canvas .entry)) counts (now (turns .entry)) (now (tiles .entry)) (now (canvas .entry)) r (now (turns .exit)) (now (tiles .exit))) ⌝ }
+    ensures { λ r. ⌜ ((e : Model) → Edit-bytes (now (bytes .entry)) e → Moved (does e) (now (canvas .entry)) counts (now (turns .entry)) (now (tiles .entry)) (now (canvas .exit)) r (now (turns .exit)) (now (tiles .exit))) ⌝ }
 {
     put_slot(turns, counts.done, bytes);
     let (edit, _) = edit_at(turns, 8192 * counts.done);

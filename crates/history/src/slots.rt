@@ -21,10 +21,10 @@ fn replay(wide: usize, high: usize, turns: &[u8], done: usize, tiles: &mut [u8])
     requires { ⌜ Room wide high (now tiles) ⌝ ∗ ⌜ 8192 * done ≤ length (now turns) ⌝ }
     ensures { λ r. ⌜ Replayed wide high (latest-in (now (turns .entry)) done) (now (tiles .entry)) (now (tiles .exit)) r ⌝ }
 {
-    let canvas = make_blank(wide, high, tiles);
+    let mut canvas = make_blank(wide, high, tiles);
     for k in 0..done {
         let (edit, _) = edit_at(turns, 8192 * k);
-        apply(&canvas, tiles, edit, turns);
+        apply(&mut canvas, tiles, edit, turns);
     }
     canvas
 }

@@ -18,9 +18,9 @@ pub fn replay(wide: usize, high: usize, edits: &[Edit], source: &[u8], tiles: &m
     requires { ⌜ Room wide high (now tiles) ⌝ ∗ ⌜ All (Built (now source)) (now edits) ⌝ }
     ensures { λ r. ⌜ Replayed wide high (meanings (now (source .entry)) (now (edits .entry))) (now (tiles .entry)) (now (tiles .exit)) r ⌝ }
 {
-    let canvas = make_blank(wide, high, tiles);
+    let mut canvas = make_blank(wide, high, tiles);
     for k in 0..edits.len() {
-        apply(&canvas, tiles, edits[k], source);
+        apply(&mut canvas, tiles, edits[k], source);
     }
     canvas
 }

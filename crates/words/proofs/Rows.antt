@@ -131,7 +131,40 @@ all-nameable = (
     nameable _ refl refl,
     (
       nameable _ refl refl,
-      (nameable _ refl refl, (nameable _ refl refl, (nameable _ refl refl, tt))),
+      (
+        nameable _ refl refl,
+        (
+          nameable _ refl refl,
+          (
+            nameable _ refl refl,
+            (
+              nameable _ refl refl,
+              (
+                nameable _ refl refl,
+                (
+                  nameable _ refl refl,
+                  (
+                    nameable _ refl refl,
+                    (
+                      nameable _ refl refl,
+                      (
+                        nameable _ refl refl,
+                        (
+                          nameable _ refl refl,
+                          (
+                            nameable _ refl refl,
+                            tt,
+                          ),
+                        ),
+                      ),
+                    ),
+                  ),
+                ),
+              ),
+            ),
+          ),
+        ),
+      ),
     ),
   ),
 )

@@ -22,7 +22,15 @@ pub record Row : Type 0 where
 
 unfoldable pub table : List Row
 table =
-    record { name = codes "all"; head = 8 ∷ []; fields = [] }
+    record { name = codes "add"; head = 0 ∷ []; fields = [] }
+    ∷ record { name = codes "drop"; head = 1 ∷ []; fields = [] }
+    ∷ record { name = codes "choose"; head = 2 ∷ []; fields = Byte ∷ [] }
+    ∷ record { name = codes "raise"; head = 3 ∷ []; fields = [] }
+    ∷ record { name = codes "mode"; head = 4 ∷ []; fields = Byte ∷ [] }
+    ∷ record { name = codes "much"; head = 5 ∷ []; fields = Short ∷ [] }
+    ∷ record { name = codes "shown"; head = 6 ∷ []; fields = Byte ∷ [] }
+    ∷ record { name = codes "merge"; head = 7 ∷ []; fields = [] }
+    ∷ record { name = codes "all"; head = 8 ∷ []; fields = [] }
     ∷ record { name = codes "box"; head = 9 ∷ []; fields = Short ∷ Short ∷ Short ∷ Short ∷ [] }
     ∷ record { name = codes "not"; head = 11 ∷ []; fields = [] }
     ∷ record { name = codes "fill"; head = 12 ∷ []; fields = Colour ∷ [] }

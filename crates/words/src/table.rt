@@ -10,7 +10,47 @@ ghost use Rattle.words.specs.Lines.{named, fits-row};
 use crate::forms::Field;
 use crate::forms::Form;
 
-static FORMS: [Form; 6] = [
+static FORMS: [Form; 14] = [
+    Form {
+        name: b"add",
+        head: &[0],
+        fields: &[],
+    },
+    Form {
+        name: b"drop",
+        head: &[1],
+        fields: &[],
+    },
+    Form {
+        name: b"choose",
+        head: &[2],
+        fields: &[Field::Byte],
+    },
+    Form {
+        name: b"raise",
+        head: &[3],
+        fields: &[],
+    },
+    Form {
+        name: b"mode",
+        head: &[4],
+        fields: &[Field::Byte],
+    },
+    Form {
+        name: b"much",
+        head: &[5],
+        fields: &[Field::Short],
+    },
+    Form {
+        name: b"shown",
+        head: &[6],
+        fields: &[Field::Byte],
+    },
+    Form {
+        name: b"merge",
+        head: &[7],
+        fields: &[],
+    },
     Form {
         name: b"all",
         head: &[8],

@@ -10,7 +10,7 @@ use words::lines::read_line;
 use words::turns::write_turn;
 
 // A line, and the bytes of its turn.
-static TURNS: [(&[u8], &[u8]); 9] = [
+static TURNS: [(&[u8], &[u8]); 17] = [
     (b"box 1 0 1 1", &[9, 1, 0, 0, 0, 1, 0, 1, 0]),
     (b"box\t65535 256  007 0\r", &[9, 255, 255, 0, 1, 7, 0, 0, 0]),
     (b"fill ff0000ff", &[12, 255, 0, 0, 255]),
@@ -18,13 +18,21 @@ static TURNS: [(&[u8], &[u8]); 9] = [
     (b"not", &[11]),
     (b"undo", &[17]),
     (b"redo", &[18]),
+    (b"add", &[0]),
+    (b"drop", &[1]),
+    (b"choose 63", &[2, 63]),
+    (b"raise", &[3]),
+    (b"mode 1", &[4, 1]),
+    (b"much 300", &[5, 44, 1]),
+    (b"shown 0", &[6, 0]),
+    (b"merge", &[7]),
     (b"bytes 0B", &[11]),
     (b"bytes 0c Ff0000 fF", &[12, 255, 0, 0, 255]),
 ];
 
 static BLANK: [&[u8]; 3] = [b"", b" \t\r", b"# x"];
 
-static UNKNOWN: [&[u8]; 10] = [
+static UNKNOWN: [&[u8]; 13] = [
     b"box 70000 0 1 1",
     b"box 1 0 1",
     b"box 1 0 1 -1",
@@ -32,13 +40,19 @@ static UNKNOWN: [&[u8]; 10] = [
     b"fill ff0000fg",
     b"foo",
     b"all 1",
+    b"choose 256",
+    b"mode",
+    b"much 65536",
     b"bytes",
     b"bytes 0",
     b" # x",
 ];
 
 // A turn's bytes, and its line.
-static LISTED: [(&[u8], &[u8]); 5] = [
+static LISTED: [(&[u8], &[u8]); 8] = [
+    (&[0], b"add"),
+    (&[5, 44, 1], b"much 300"),
+    (&[6, 2], b"shown 2"),
     (&[8], b"all"),
     (&[9, 1, 0, 0, 1, 255, 255, 0, 0], b"box 1 256 65535 0"),
     (&[12, 255, 0, 171, 16], b"fill ff00ab10"),

@@ -101,7 +101,7 @@ fn kept_in_a_file(rt: LibcRuntime) -> Result<(), Fail> {
 fn refused(rt: LibcRuntime) -> Result<(), Fail> {
     let heap = rt.alloc();
     let mut engine = begun(heap, 3, 1)?;
-    let script = "bytes 00\nbytes 09 01\nbytes 0b 00\nfill ff0000\nbox 1 0 1 1\nfill ff0000ff";
+    let script = "bytes 0f\nbytes 09 01\nbytes 0b 00\nfill ff0000\nbox 1 0 1 1\nfill ff0000ff";
     let messages =
         "line 1: refused 3 at 0\nline 2: refused 1 at 2\nline 3: refused 1 at 1\nline 4: not understood\n";
     plays(heap, &mut engine, script, messages, RED)?;

@@ -1,8 +1,40 @@
 use borrow.Author.Needs.{needs}
 use Rattle.page.specs.Fits.{kind}
 use Rattle.codec.specs.Meaning.{edit-of}
-use Rattle.canvas.proofs.Unbuilt.{none-other, not-known}
+use Rattle.canvas.proofs.Unbuilt.{others-unbuilt, not-known}
 use Rattle.canvas.proofs.applying.apply.Needs as need
+
+pub returns-in-AddLayer : need.returns-in-AddLayer
+unfolding kind
+returns-in-AddLayer c = search needs
+
+pub returns-in-DropLayer : need.returns-in-DropLayer
+unfolding kind
+returns-in-DropLayer c = let so = c .drop-layer .ensures (c .args .tiles .now) in search needs
+
+pub returns-in-ChooseLayer : need.returns-in-ChooseLayer
+unfolding kind
+returns-in-ChooseLayer c = let so = c .choose-layer .ensures (c .args .tiles .now) in search needs
+
+pub returns-in-RaiseLayer : need.returns-in-RaiseLayer
+unfolding kind
+returns-in-RaiseLayer c = let so = c .raise-layer .ensures (c .args .tiles .now) in search needs
+
+pub returns-in-SetMode : need.returns-in-SetMode
+unfolding kind
+returns-in-SetMode c = let so = c .set-mode .ensures (c .args .tiles .now) in search needs
+
+pub returns-in-SetOpacity : need.returns-in-SetOpacity
+unfolding kind
+returns-in-SetOpacity c = let so = c .set-opacity .ensures (c .args .tiles .now) in search needs
+
+pub returns-in-SetVisible : need.returns-in-SetVisible
+unfolding kind
+returns-in-SetVisible c = let so = c .set-visible .ensures (c .args .tiles .now) in search needs
+
+pub returns-in-MergeDown : need.returns-in-MergeDown
+unfolding kind
+returns-in-MergeDown c = search needs
 
 pub returns-in-SelectAll : need.returns-in-SelectAll
 unfolding kind
@@ -21,8 +53,7 @@ unfolding kind
 returns-in-Fill c = search needs
 
 -- an edit of another kind is not built
-pub returns-in-rest : need.returns-in-rest
-returns-in-rest c =
-    let r = c .in-rest in
-    not-known (c .args .canvas .now) (c .args .tiles .now) (edit-of (c .args .source .now) (c .args .edit))
-    (none-other (c .args .source .now) (c .args .edit) (r .not-SelectAll) (r .not-SelectRect) (r .not-SelectInverse) (r .not-Fill))
+pub returns-in-SelectSimilar : need.returns-in-SelectSimilar
+returns-in-SelectSimilar c =
+    let bs = c .args .source .now in
+    not-known (c .args .canvas .now) (c .args .tiles .now) (edit-of bs (c .args .edit)) (others-unbuilt bs (c .args .edit) (c .in-SelectSimilar .is))
