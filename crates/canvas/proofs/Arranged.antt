@@ -4,17 +4,13 @@ use mathlib.Core.Path.{subst₃}
 use lib.Seq.{take-set-lt}
 use Rattle.std.proofs.lemmas.Nat.{mul-add-lt}
 use Rattle.std.proofs.lemmas.List.{length-map, length-take-le, get_or-map, get_or-take, map-set}
-use Rattle.std.proofs.lemmas.Bool.{cases_eq, cond-true, cond-false, lt-ltb, le-ltb, and_parts, both_ways}
-use Rattle.pixel.specs.declared.areas.Area.{Area}
-use Rattle.pixel.specs.Areas.{nowhere, whole, Around}
+use Rattle.std.proofs.lemmas.Bool.{cases_eq, cond-true, cond-false, lt-ltb, le-ltb}
 use Rattle.pixel.specs.Bytes.{pixel_at, PixelsTo, Wrote}
 use Rattle.pixel.specs.Pixels.{clear, merged}
 use Rattle.pixel.proofs.Steps.{pixel_kept, pixels_wrote}
-use Rattle.pixel.proofs.Differing.{around_none, around_whole}
 use Rattle.page.specs.Layers.{Layer, clear_layer, painted, put_in, without}
 use Rattle.page.specs.Edits.{Page, Edit, edited, layer, active_layer, with_layers, add_layer, drop_layer, choose_layer, raise_layer, set_mode, set_opacity, merge_down, merged_layer}
 use Rattle.page.specs.Agree.{LayerAgree, LayersAgree, Agree}
-use Rattle.page.specs.Touched.{Alters, Touched}
 use Rattle.page.proofs.Agreeing.{agree_refl}
 use Rattle.page.proofs.Same.{layers_by}
 use Rattle.canvas.specs.declared.state.Layer.{Layer as Entry}
@@ -23,60 +19,64 @@ use Rattle.canvas.specs.View.{plane_at, selection_at, clipboard_at, fresh, no_en
 use Rattle.canvas.specs.Arranging.{from_lowered, from_raised, Reordered, Arranged, LayersEdited, LayersPainted, plane_start}
 use Rattle.canvas.proofs.Moving.{first_lowered, lowered_other, raised_in, raised_below, raised_same}
 use Rattle.canvas.proofs.Placing.{length-put_in, put_in_at, put_in_from, length_without, without_from, raised_from}
-use Rattle.canvas.proofs.Views.{viewed, chosen_kept, plane_in, planes_apart, view_layer, view_count}
+use Rattle.canvas.proofs.Views.{plane_in, planes_apart, view_layer, view_count}
 
 -- nothing is written
 wrote_none : (xs : List ℕ) → Wrote 0 0 xs xs
 wrote_none xs = record { long = refl; before = λ q l. refl; after = λ q l. refl }
 
--- an edit that can be
+-- the page of a canvas by its fields
+abbrev pub viewed : ℕ → ℕ → List Entry → ℕ → ℕ → List ℕ → Page
+viewed w h ls n a xs =
+    record {
+      wide = w;
+      high = h;
+      layers = layers_of w h xs (take n ls);
+      active = a;
+      selected = λ i j. get_or xs (selection_at (w * h) + (j * w + i)) 0;
+      clipboard = λ i j. pixel_at xs (clipboard_at (w * h) + 4 * (j * w + i));
+    }
+
+-- an edit that can be, and one that cannot
 pub done : (t : Bool) (p q r : Page) → t ≡ true → Agree r q → Agree r (cond t q p)
 done t p q r e a = subst (Agree r) (sym (cond-true t q p e)) a
 
+left : (t : Bool) (p q : Page) → t ≡ false → Agree p (cond t q p)
+left t p q e = subst (Agree p) (sym (cond-false t q p e)) (agree_refl p)
+
 -- an edit that cannot be leaves everything
 module _ (s : Canvas) (xs : List ℕ) where
-  -- what an edit of the layers touches: everything, or nothing
-  pub touched_all : (e : Edit) → ((i j : ℕ) → Alters (view s xs) e i j) → Around (Touched (view s xs) e) (whole s.wide s.high)
-  touched_all e so = around_whole _ s.wide s.high (omega (arith, s.sized)) (omega (arith, s.sized)) (λ i j iw jh. (iw, jh, so i j)) (λ i j t. (t.0, t.1))
+  stays : (e : Edit) → Agree (view s xs) (edited (view s xs) e) → LayersEdited s e xs s xs
+  stays e so = record { agrees = so; same_wide = refl; same_high = refl }
 
-  pub touched_none : (e : Edit) → ((i j : ℕ) → Alters (view s xs) e i j → ⊥) → Around (Touched (view s xs) e) nowhere
-  touched_none e so = around_none _ (λ i j t. so i j t.2)
-
-  pub stays : (e : Edit) → Agree (view s xs) (edited (view s xs) e) → ((i j : ℕ) → Alters (view s xs) e i j → ⊥) → LayersEdited s e xs nowhere s xs
-  stays e so none = record { agrees = so; exact = touched_none e none; same_wide = refl; same_high = refl }
-
-  -- one that cannot be, by its test
-  stays_by : (e : Edit) (t : Bool) (q : Page) → t ≡ false → Agree (cond t q (view s xs)) (edited (view s xs) e) → ((i j : ℕ) → Alters (view s xs) e i j → t ≡ true) → LayersEdited s e xs nowhere s xs
-  stays_by e t q f so none = stays e (subst (λ (p : Page). Agree p (edited (view s xs) e)) (cond-false t q (view s xs) f) so) (λ i j a. both_ways t f (none i j a))
-
-  pub not_added : 64 ≤ s.count → LayersPainted s add_layer s.count xs nowhere s xs
+  pub not_added : 64 ≤ s.count → LayersPainted s add_layer s.count xs s xs
   not_added full =
       record {
-        edit = stays_by add_layer _ _ (le-ltb (length (view s xs).layers) 64 (omega (arith, view_count s xs))) (agree_refl _) (λ i j a. a);
+        edit = stays add_layer (left _ (view s xs) _ (le-ltb (length (view s xs).layers) 64 (omega (arith, view_count s xs))));
         wrote = record { long = refl; before = λ q l. refl; after = λ q l. refl };
       }
 
-  pub not_dropped : s.count ≤ 1 → LayersEdited s drop_layer xs nowhere s xs
-  not_dropped last = stays_by drop_layer _ _ (le-ltb 1 (length (view s xs).layers) (omega (arith, view_count s xs))) (agree_refl _) (λ i j a. a)
+  pub not_dropped : s.count ≤ 1 → LayersEdited s drop_layer xs s xs
+  not_dropped last = stays drop_layer (left _ (view s xs) _ (le-ltb 1 (length (view s xs).layers) (omega (arith, view_count s xs))))
 
-  pub not_chosen : (k : ℕ) → s.count ≤ k → LayersEdited s (choose_layer k) xs nowhere s xs
-  not_chosen k none = stays_by (choose_layer k) _ _ (le-ltb k (length (view s xs).layers) (omega (arith, view_count s xs))) (agree_refl _) (λ i j a. absurd a)
+  pub not_chosen : (k : ℕ) → s.count ≤ k → LayersEdited s (choose_layer k) xs s xs
+  not_chosen k none = stays (choose_layer k) (left _ (view s xs) _ (le-ltb k (length (view s xs).layers) (omega (arith, view_count s xs))))
 
-  pub not_raised : s.count ≤ s.active + 1 → LayersEdited s raise_layer xs nowhere s xs
-  not_raised top = stays_by raise_layer _ _ (le-ltb (suc s.active) (length (view s xs).layers) (omega (arith, view_count s xs))) (agree_refl _) (λ i j a. a)
+  pub not_raised : s.count ≤ s.active + 1 → LayersEdited s raise_layer xs s xs
+  not_raised top = stays raise_layer (left _ (view s xs) _ (le-ltb (suc s.active) (length (view s xs).layers) (omega (arith, view_count s xs))))
 
-  pub not_merged : s.active ≡ 0 → LayersPainted s merge_down (s.active - 1) xs nowhere s xs
+  pub not_merged : s.active ≡ 0 → LayersPainted s merge_down (s.active - 1) xs s xs
   not_merged lowest =
       record {
-        edit = stays_by merge_down _ _ (le-ltb 0 s.active (omega arith)) (agree_refl _) (λ i j a. a);
+        edit = stays merge_down (left _ (view s xs) _ (le-ltb 0 s.active (omega arith)));
         wrote = record { long = refl; before = λ q l. refl; after = λ q l. refl };
       }
 
-  pub not_mode : (m : ℕ) → 5 < m → LayersEdited s (set_mode m) xs nowhere s xs
-  not_mode m high = stays_by (set_mode m) _ _ (le-ltb m 6 (omega arith)) (agree_refl _) (λ i j a. (and_parts _ _ a).0)
+  pub not_mode : (m : ℕ) → 5 < m → LayersEdited s (set_mode m) xs s xs
+  not_mode m high = stays (set_mode m) (left _ (view s xs) _ (le-ltb m 6 (omega arith)))
 
-  pub not_opacity : (a : ℕ) → 256 ≤ a → LayersEdited s (set_opacity a) xs nowhere s xs
-  not_opacity a high = stays_by (set_opacity a) _ _ (le-ltb a 256 (omega arith)) (agree_refl _) (λ i j b. (and_parts _ _ b).0)
+  pub not_opacity : (a : ℕ) → 256 ≤ a → LayersEdited s (set_opacity a) xs s xs
+  not_opacity a high = stays (set_opacity a) (left _ (view s xs) _ (le-ltb a 256 (omega arith)))
 
 -- layers with another plane keep their pixels
 kept_layer : (w h p : ℕ) (xs ys : List ℕ) → Wrote (plane_at (w * h) p) (plane_at (w * h) p + 4 * (w * h)) xs ys → (e : Entry) → e.plane ≢ p → LayerAgree w h (layer_of w h ys e) (layer_of w h xs e)
@@ -121,61 +121,55 @@ module _ (s t : Canvas) where
       let at : (k : ℕ) → k < t.count → get_or (layers_of w h ys (take t.count ms)) k clear_layer ≡ layer_of w h ys (get_or ls (f k) no_entry)
       = λ k l. get_or-map (layer_of w h ys) (take t.count ms) k no_entry clear_layer (omega (arith, length-take-le t.count ms few))
       ∙ ap (layer_of w h ys) (get_or-take t.count ms k no_entry l ∙ so.entries.places k no_entry (omega (arith, so.entries.long))) in
-      subst₃ (λ x y b. Agree (viewed x y t.layers t.count t.active b ys) q) (sym so.wide_is) (sym so.high_is) (sym so.bounds_is)
+      subst₂ (λ x y. Agree (viewed x y t.layers t.count t.active ys) q) (sym so.wide_is) (sym so.high_is)
       (record {
         same_wide = refl;
         same_high = refl;
         same_active = so.active_is ∙ am;
         same_layers = layers_by w h _ qs (count ∙ so.count_is ∙ sym len)
             (λ k l. let lt : k < t.count = omega (arith, count) in agree_by w h _ _ _ _ (at k lt) refl (each k (omega (arith, so.count_is))));
-        same_selected = λ i j iw jh. chosen_kept w h s.bounds xs ys i j (wrote.after _ (omega arith));
+        same_selected = λ i j iw jh. wrote.after _ (omega arith);
         same_clipboard = λ i j iw jh. pixel_kept _ _ xs ys _ wrote (inr (omega arith));
       })
 
-  pub edit_by : (e : Edit) (r : Area) (xs ys : List ℕ) → t.wide ≡ w → t.high ≡ h → Agree (view t ys) (edited (view s xs) e) → Around (Touched (view s xs) e) r → LayersEdited s e xs r t ys
-  edit_by e r xs ys a b so around = record { agrees = so; exact = around; same_wide = a; same_high = b }
-
-  -- one that touches all
-  pub all_by : (e : Edit) (r : Area) (xs ys : List ℕ) → r ≡ whole t.wide t.high → t.wide ≡ w → t.high ≡ h → Agree (view t ys) (edited (view s xs) e) → ((i j : ℕ) → Alters (view s xs) e i j) → LayersEdited s e xs r t ys
-  all_by e r xs ys is a b so all = edit_by e r xs ys a b so (subst (Around (Touched (view s xs) e)) (sym (is ∙ ap₂ whole a b)) (touched_all s xs e all))
+  pub edit_by : (e : Edit) (xs ys : List ℕ) → t.wide ≡ w → t.high ≡ h → Agree (view t ys) (edited (view s xs) e) → LayersEdited s e xs t ys
+  edit_by e xs ys a b so = record { agrees = so; same_wide = a; same_high = b }
 
   -- one taken out
-  pub dropped : Arranged s s.layers (from_raised s.active (s.count - 1)) (s.count - 1) (s.active - 1) t → 1 < s.count → (r : Area) → r ≡ whole t.wide t.high → (xs : List ℕ) → LayersEdited s drop_layer xs r t xs
-  dropped so some r ri xs =
+  pub dropped : Arranged s s.layers (from_raised s.active (s.count - 1)) (s.count - 1) (s.active - 1) t → 1 < s.count → (xs : List ℕ) → LayersEdited s drop_layer xs t xs
+  dropped so some xs =
       let p = view s xs in
       let qs = without s.active p.layers in
       let count = view_count s xs in
       let there = s.counted.0 in
-      all_by drop_layer r xs xs ri so.wide_is so.high_is
+      edit_by drop_layer xs xs so.wide_is so.high_is
       (done _ p (with_layers p qs (s.active - 1)) (view t xs) (lt-ltb 1 (length p.layers) (omega arith))
       (page_is s.layers (from_raised s.active (s.count - 1)) (s.count - 1) (s.active - 1) so s.full xs xs 0 0 (wrote_none xs) (omega arith) qs (s.active - 1) refl
       (omega (arith, length_without s.active p.layers (omega arith)))
       (λ k l. same_layer w h _ _ (sym (without_from s.active (s.count - 1) p.layers k clear_layer l
       ∙ view_layer s xs (from_raised s.active (s.count - 1) k) (raised_in s.active (s.count - 1) s.count k (omega arith) (omega arith) (omega arith)))))))
-      (λ i j. lt-ltb 1 (length p.layers) (omega arith))
 
   -- one that changes places with the next
-  pub raised : (above : ℕ) → above ≡ s.active + 1 → Arranged s s.layers (from_raised s.active above) s.count above t → above < s.count → (r : Area) → r ≡ whole t.wide t.high → (xs : List ℕ) → LayersEdited s raise_layer xs r t xs
-  raised above is by less r ri xs =
+  pub raised : (above : ℕ) → above ≡ s.active + 1 → Arranged s s.layers (from_raised s.active above) s.count above t → above < s.count → (xs : List ℕ) → LayersEdited s raise_layer xs t xs
+  raised above is by less xs =
       let p = view s xs in
       let a = s.active in
       let so : Arranged s s.layers (from_raised a (a + 1)) s.count (a + 1) t = subst (λ (k : ℕ). Arranged s s.layers (from_raised a k) s.count k t) is by in
       let some : a + 1 < s.count = omega arith in
       let qs = put_in (suc a) (active_layer p) (without a p.layers) in
       let count = view_count s xs in
-      all_by raise_layer r xs xs ri so.wide_is so.high_is
+      edit_by raise_layer xs xs so.wide_is so.high_is
       (done _ p (with_layers p qs (suc a)) (view t xs) (lt-ltb (suc a) (length p.layers) (omega arith))
       (page_is s.layers (from_raised a (a + 1)) s.count (a + 1) so s.full xs xs 0 0 (wrote_none xs) (omega arith) qs (suc a) (add-one a)
       (length-put_in (suc a) (active_layer p) (without a p.layers) ∙ length_without a p.layers (omega arith) ∙ count)
       (λ k l. same_layer w h _ _ (sym (raised_from a p.layers k clear_layer (omega arith)
       ∙ view_layer s xs (from_raised a (a + 1) k) (raised_in a (a + 1) s.count k (omega arith) some l))))))
-      (λ i j. lt-ltb (suc a) (length p.layers) (omega arith))
 
   -- a clear one put in: the entry of the spare plane behind the others, after it is cleared
-  pub added : (r : Area) (xs ys : List ℕ) → r ≡ whole t.wide t.high → s.count < 64 →
+  pub added : (xs ys : List ℕ) → s.count < 64 →
       Arranged s (set s.layers s.count (fresh (entry s.count).plane)) (from_lowered (s.active + 1) s.count) (s.count + 1) (s.active + 1) t →
-      PixelsTo (λ k. clear) (plane_start s s.count) (w * h) xs ys → LayersPainted s add_layer s.count xs r t ys
-  added r xs ys ri few so cleared =
+      PixelsTo (λ k. clear) (plane_start s s.count) (w * h) xs ys → LayersPainted s add_layer s.count xs t ys
+  added xs ys few so cleared =
       let p = view s xs in
       let a = s.active in
       let n = s.count in
@@ -200,26 +194,25 @@ module _ (s t : Canvas) where
             (kept_layer w h (entry n).plane xs ys wrote (entry (f k)) (λ e. let same : f k ≡ n = s.distinct (f k, n, no_entry) (omega arith, few, e) in omega arith))
       ] in
       record {
-        edit = all_by add_layer r xs ys ri so.wide_is so.high_is
+        edit = edit_by add_layer xs ys so.wide_is so.high_is
             (done _ p (with_layers p qs (suc a)) (view t ys) (lt-ltb (length p.layers) 64 (omega arith))
             (page_is ls f (n + 1) (a + 1) so (length-set s.layers n new ∙ full) xs ys _ _ wrote (plane_in (w * h) (entry n).plane (s.planes n no_entry few)) qs (suc a) (add-one a)
-            (length-put_in (suc a) clear_layer p.layers ∙ ap suc count ∙ sym (add-one n)) each))
-            (λ i j. lt-ltb (length p.layers) 64 (omega arith));
+            (length-put_in (suc a) clear_layer p.layers ∙ ap suc count ∙ sym (add-one n)) each));
         wrote = wrote;
       }
 
   -- one taken out, after it is merged into the one below
-  pub merged_down : (r : Area) (xs ys : List ℕ) (below m at from : ℕ) → r ≡ whole t.wide t.high → below + 1 ≡ s.active → m ≡ w * h → at ≡ plane_start s below → from ≡ plane_start s s.active →
+  pub merged_down : (xs ys : List ℕ) (below m at from : ℕ) → below + 1 ≡ s.active → m ≡ w * h → at ≡ plane_start s below → from ≡ plane_start s s.active →
       Arranged s s.layers (from_raised s.active (s.count - 1)) (s.count - 1) (s.active - 1) t →
-      PixelsTo (λ k. merged (entry s.active).opacity (pixel_at xs (from + 4 * k)) (pixel_at xs (at + 4 * k))) at m xs ys → LayersPainted s merge_down (s.active - 1) xs r t ys
-  merged_down r xs ys below m at from ri is size_is at-is from_is so into =
+      PixelsTo (λ k. merged (entry s.active).opacity (pixel_at xs (from + 4 * k)) (pixel_at xs (at + 4 * k))) at m xs ys → LayersPainted s merge_down (s.active - 1) xs t ys
+  merged_down xs ys below m at from is size_is at-is from_is so into =
       let p = view s xs in
       let a = s.active in
       let b = s.active - 1 in
       let hi = s.count - 1 in
       let f = from_raised a hi in
       let one_below : below ≡ b = omega arith in
-      let P : ℕ → ℕ → ℕ → Type 0 = λ q u n. PixelsTo (λ k. merged (entry a).opacity (pixel_at xs (q + 4 * k)) (pixel_at xs (u + 4 * k))) u n xs ys in
+      let P : ℕ → ℕ → ℕ → Type 0 = λ q r n. PixelsTo (λ k. merged (entry a).opacity (pixel_at xs (q + 4 * k)) (pixel_at xs (r + 4 * k))) r n xs ys in
       let to : P (plane_start s a) (plane_start s b) (w * h) = subst₃ P from_is (at-is ∙ ap (plane_start s) one_below) size_is into in
       let rest = without a p.layers in
       let qs = set rest b (merged_layer p) in
@@ -243,9 +236,8 @@ module _ (s t : Canvas) where
             (kept_layer w h (entry b).plane xs ys wrote (entry (f k)) (λ e. ne (raised_same a hi k b (omega arith) l (s.distinct (f k, b, no_entry) (omega arith, omega arith, e)))))
       ] in
       record {
-        edit = all_by merge_down r xs ys ri so.wide_is so.high_is
+        edit = edit_by merge_down xs ys so.wide_is so.high_is
             (done _ p (with_layers p qs b) (view t ys) (lt-ltb 0 a (omega arith))
-            (page_is s.layers f hi b so s.full xs ys _ _ wrote (plane_in (w * h) (entry b).plane (s.planes b no_entry (omega arith))) qs b refl (length-set rest b (merged_layer p) ∙ size) each))
-            (λ i j. lt-ltb 0 a (omega arith));
+            (page_is s.layers f hi b so s.full xs ys _ _ wrote (plane_in (w * h) (entry b).plane (s.planes b no_entry (omega arith))) qs b refl (length-set rest b (merged_layer p) ∙ size) each));
         wrote = wrote;
       }

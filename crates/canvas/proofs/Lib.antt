@@ -1,8 +1,5 @@
 pub mod Views
 pub mod Layering
-pub mod Painting
-pub mod Choosing
-pub mod Applied
 mod Rowing
 mod Moving
 mod Placing

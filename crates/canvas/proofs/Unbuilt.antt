@@ -1,21 +1,18 @@
 -- Edits of kinds that there are not. Assumes nothing.
-use Rattle.std.proofs.Common.{◌≡◌, ℕ, Bool, true, false, cond, not, eqb, ltb, ◌⊎◌, List, sym, refl, ap, subst, inl, inr}
+use Rattle.std.proofs.Common.{◌≡◌, ℕ, Bool, true, false, cond, ◌⊎◌, List, sym, refl, ap, subst, inl, inr}
 use Rattle.pixel.specs.declared.Pixel.{Pixel}
 use Rattle.page.specs.Edits as page
-use Rattle.page.specs.Edits.{active_layer, set_mode}
+use Rattle.page.specs.Edits.{set_mode}
 use Rattle.page.specs.Fits.{kind}
 use Rattle.codec.specs.declared.edits.Filter.{Filter}
 use Rattle.codec.specs.declared.edits.Edit.{Edit}
 use Rattle.codec.specs.declared.edits.Edit.TheVariants.{AddLayer, DropLayer, ChooseLayer, RaiseLayer, SetMode, SetOpacity, SetVisible, MergeDown, SelectAll, SelectRect, SelectSimilar, SelectInverse, Fill, Stroke, ApplyFilter, Copy, Paste}
 use Rattle.codec.specs.Kinds.{built}
 use Rattle.codec.specs.Meaning.{edit_of}
-use Rattle.std.proofs.lemmas.Bool.{and_parts, both_ways}
-use Rattle.pixel.specs.Areas.{nowhere}
 use Rattle.page.proofs.Agreeing.{agree_refl}
 use Rattle.canvas.specs.declared.state.Canvas.{Canvas}
 use Rattle.canvas.specs.View.{view}
 use Rattle.canvas.specs.Applying.{known, Applied}
-use Rattle.canvas.proofs.Arranged.{touched_none}
 
 -- an edit of one of the kinds that there are not
 abbrev Other : Edit → Type 0
@@ -53,7 +50,6 @@ all_others bs Copy s t f c p = absurd (c refl)
 all_others bs (Paste x y) s t f c p = absurd (p x y refl)
 
 -- one that is not built leaves the page
-pub not_known : (s : Canvas) (xs : List ℕ) (e : page.Edit) → built (kind e) ≡ false → Applied s (known e) xs nowhere s xs
+pub not_known : (s : Canvas) (xs : List ℕ) (e : page.Edit) → built (kind e) ≡ false → Applied s (known e) xs s xs
 not_known s xs e n =
-    subst (λ (b : Bool). Applied s (cond b e (set_mode 255)) xs nowhere s xs) (sym n)
-    (record { agrees = agree_refl (view s xs); same_wide = refl; same_high = refl; exact = touched_none s xs (set_mode 255) (λ i j a. both_ways (ltb 255 6) refl (and_parts (ltb 255 6) (not (eqb 255 (active_layer (view s xs)).mode)) a).0); long = refl; tiles_kept = λ q l m. refl })
+    subst (λ (b : Bool). Applied s (cond b e (set_mode 255)) xs s xs) (sym n) (record { agrees = agree_refl (view s xs); same_wide = refl; same_high = refl; long = refl })

@@ -1,23 +1,20 @@
 -- From the bytes that an operation leaves to the page that they mean. Assumes nothing.
-use Rattle.std.proofs.Common.{◌≡◌, ℕ, ◌+◌, ◌*◌, ◌<◌, ◌≤◌, Bool, true, false, cond, ◌&&◌, ltb, ◌≢◌, ◌⊎◌, List, [], ◌∷◌, map, length, get_or, take, set, sym, refl, ap, ◌∙◌, subst, ap₂, subst₂, inl, inr, le_refl, arith, length-set, get_or-set_other, get_or-set_same}
+use Rattle.std.proofs.Common.{◌≡◌, ℕ, ◌+◌, ◌*◌, ◌<◌, ◌≤◌, ◌≢◌, ◌⊎◌, List, [], ◌∷◌, map, length, get_or, take, set, sym, refl, ap, ◌∙◌, subst, ap₂, subst₂, inl, inr, le_refl, arith, length-set, get_or-set_other, get_or-set_same}
 use Rattle.std.proofs.lemmas.Nat.{mul-le, mul-add-lt}
 use Rattle.std.proofs.lemmas.List.{length-map, length-take-le, get_or-map, get_or-take}
-use Rattle.std.proofs.lemmas.Bool.{cases_eq, cases_order, and_from, lt-ltb}
+use Rattle.std.proofs.lemmas.Bool.{cases_eq, cases_order}
 use Rattle.pixel.specs.declared.Pixel.{Pixel}
-use Rattle.pixel.specs.declared.areas.Area.{Area}
-use Rattle.pixel.specs.Areas.{inside, whole}
 use Rattle.pixel.specs.Bytes.{pixel_at, PixelsTo, BytesTo, Wrote}
-use Rattle.pixel.specs.Pixels.{clear}
-use Rattle.pixel.proofs.Steps.{same_pixel, pixel_kept, pixel_before, pixels_wrote, bytes_wrote}
-use Rattle.pixel.proofs.Pictures.{true_inside}
+use Rattle.pixel.specs.Pixels.{clear, pixel_lerp}
+use Rattle.pixel.proofs.Steps.{pixel_kept, pixel_before, pixels_wrote, bytes_wrote}
 use Rattle.page.specs.Layers.{Picture, Layer, clear_layer, painted}
-use Rattle.page.specs.Selection.{mask_of}
-use Rattle.page.specs.Edits.{Page, Edit, edited, blank, layer, active_layer, with_layer, with_selected}
-use Rattle.page.specs.Agree.{Same, LayerAgree, LayersAgree, Agree, Formed}
+use Rattle.page.specs.Edits.{Page, Edit, edited, fill, blank, layer, active_layer, with_layer, with_selected}
+use Rattle.page.specs.Agree.{Same, LayerAgree, LayersAgree, Agree}
 use Rattle.page.proofs.Same.{layers_by}
 use Rattle.canvas.specs.declared.state.Layer.{Layer as Entry}
 use Rattle.canvas.specs.declared.state.Canvas.{Canvas}
-use Rattle.canvas.specs.View.{plane_at, selection_at, clipboard_at, kept_at, active_at, fresh, no_entry, layer_of, layers_of, chosen, view, FreshCanvas, BlankMade, Framed}
+use Rattle.canvas.specs.Rows.{RowsTo}
+use Rattle.canvas.specs.View.{plane_at, selection_at, clipboard_at, fresh, no_entry, layer_of, view, FreshCanvas, BlankMade, Reselected, PlaneEdited}
 
 -- a plane lies below the selection, and two planes lie apart
 pub plane_in : (n k : ℕ) → k < 64 → plane_at n k + 4 * n ≤ 256 * n
@@ -35,23 +32,6 @@ two_planes n k m ne =
 
 pub planes_apart : (n k m q : ℕ) → k ≢ m → q < n → (plane_at n k + 4 * q + 4 ≤ plane_at n m) ⊎ (plane_at n m + 4 * n ≤ plane_at n k + 4 * q)
 planes_apart n k m q ne l = elim (two_planes n k m ne) [ inl u ↦ inl (omega arith) | inr u ↦ inr (omega arith) ]
-
--- the page of a canvas by its fields
-abbrev pub viewed : ℕ → ℕ → List Entry → ℕ → ℕ → Area → List ℕ → Page
-viewed w h ls n a b xs =
-    record {
-      wide = w;
-      high = h;
-      layers = layers_of w h xs (take n ls);
-      active = a;
-      selected = λ i j. mask_of (chosen w h b xs i j);
-      clipboard = λ i j. pixel_at xs (clipboard_at (w * h) + 4 * (j * w + i));
-    }
-
--- a pixel whose byte of the selection stays is selected as before
-pub chosen_kept : (w h : ℕ) (b : Area) (xs ys : List ℕ) (i j : ℕ) → get_or ys (selection_at (w * h) + (j * w + i)) 0 ≡ get_or xs (selection_at (w * h) + (j * w + i)) 0 →
-    mask_of (chosen w h b ys i j) ≡ mask_of (chosen w h b xs i j)
-chosen_kept w h b xs ys i j e = ap (λ k. mask_of (inside b i j && ltb 0 k)) e
 
 module _ (s : Canvas) where
   abbrev w : ℕ
@@ -77,9 +57,6 @@ module _ (s : Canvas) where
   pub view_count : (xs : List ℕ) → length (view s xs).layers ≡ s.count
   view_count xs = length-map (take s.count s.layers) (layer_of w h xs) ∙ length-take-le s.count s.layers (omega (arith, s.full, s.counted.1))
 
-  pub view_formed : (xs : List ℕ) → Formed (view s xs)
-  view_formed xs = record { active_there = omega (arith, view_count xs, s.counted); few_layers = omega (arith, view_count xs, s.counted) }
-
   entry_agree : (xs ys : List ℕ) (k : ℕ) → Same w h (layer_of w h ys (entry k)).pixels (layer_of w h xs (entry k)).pixels → LayerAgree w h (layer_of w h ys (entry k)) (layer_of w h xs (entry k))
   entry_agree xs ys k same = record { same_mode = refl; same_opacity = refl; same_visible = refl; same_pixels = same }
 
@@ -100,14 +77,14 @@ module _ (s : Canvas) where
         same_active = refl;
         same_layers = layers_kept xs ys (λ k l i j iw jh. pixel_kept _ _ xs ys _ so
             (inl (omega (arith, plane_in n (entry k).plane (s.planes k no_entry (omega (arith, s.full, s.counted.1))), mul-add-lt j w i h jh iw))));
-        same_selected = λ i j iw jh. chosen_kept w h s.bounds xs ys i j (so.after _ (omega arith));
+        same_selected = λ i j iw jh. so.after _ (omega arith);
         same_clipboard = λ i j iw jh. pixel_kept _ _ xs ys _ so (inr (omega arith));
       }
 
-  -- A selection: bytes of its part alone are written, and with the bounds b they select as g says.
-  pub selection_view : (xs ys : List ℕ) (b : Area) (g : ℕ → ℕ → ℕ) → Wrote (selection_at n) (clipboard_at n) xs ys →
-      ((i j : ℕ) → i < w → j < h → mask_of (chosen w h b ys i j) ≡ g i j) → Agree (viewed w h s.layers s.count s.active b ys) (with_selected (view s xs) g)
-  selection_view xs ys b g so is =
+  -- A selection: bytes of its part alone are written, and they are g's.
+  pub selection_view : (xs ys : List ℕ) (g : ℕ → ℕ → ℕ) → Wrote (selection_at n) (clipboard_at n) xs ys →
+      ((i j : ℕ) → i < w → j < h → get_or ys (selection_at n + (j * w + i)) 0 ≡ g i j) → Agree (view s ys) (with_selected (view s xs) g)
+  selection_view xs ys g so is =
       record {
         same_wide = refl;
         same_high = refl;
@@ -118,15 +95,8 @@ module _ (s : Canvas) where
         same_clipboard = λ i j iw jh. pixel_kept _ _ xs ys _ so (inr (omega arith));
       }
 
-  -- a pixel that is part of the page, and not of the active plane
-  pub framed_pixel : (xs ys : List ℕ) (q : ℕ) → Framed s xs ys → q + 4 ≤ kept_at n → (q + 4 ≤ active_at s) ⊎ (active_at s + 4 * n ≤ q) → pixel_at ys q ≡ pixel_at xs q
-  framed_pixel xs ys q so low out =
-      let byte : (p : ℕ) → q ≤ p → p < q + 4 → get_or ys p 0 ≡ get_or xs p 0
-      = λ p l m. so.kept p (omega arith) (elim out [ inl u ↦ inl (omega arith) | inr u ↦ inr (omega arith) ]) in
-      same_pixel (pixel_at ys q) (pixel_at xs q) (byte q (omega arith) (omega arith)) (byte (q + 1) (omega arith) (omega arith)) (byte (q + 2) (omega arith) (omega arith)) (byte (q + 3) (omega arith) (omega arith))
-
-  -- An edit of the active layer: of the page its plane alone is written, and it is f's.
-  pub plane_view : (xs ys : List ℕ) (f : Picture) → Framed s xs ys →
+  -- An edit of the active layer: bytes of its plane alone are written, and they are f's.
+  pub plane_view : (xs ys : List ℕ) (f : Picture) → Wrote (plane_at n (entry s.active).plane) (plane_at n (entry s.active).plane + 4 * n) xs ys →
       ((i j : ℕ) → i < w → j < h → pixel_at ys (plane_at n (entry s.active).plane + 4 * (j * w + i)) ≡ f i j) →
       Agree (view s ys) (with_layer (view s xs) (painted (active_layer (view s xs)) f))
   plane_view xs ys f so is =
@@ -137,8 +107,7 @@ module _ (s : Canvas) where
       let here : LayerAgree w h (layer_of w h ys (entry a)) new
       = record { same_mode = sym (ap (λ (l : Layer). l.mode) at); same_opacity = sym (ap (λ (l : Layer). l.opacity) at); same_visible = sym (ap (λ (l : Layer). l.visible) at); same_pixels = is } in
       let other : (k : ℕ) → k < s.count → k ≢ a → LayerAgree w h (layer_of w h ys (entry k)) (layer_of w h xs (entry k))
-      = λ k l ne. entry_agree xs ys k (λ i j iw jh. framed_pixel xs ys _ so
-      (omega (arith, plane_in n (entry k).plane (s.planes k no_entry (omega (arith, s.full, s.counted.1))), mul-add-lt j w i h jh iw))
+      = λ k l ne. entry_agree xs ys k (λ i j iw jh. pixel_kept _ _ xs ys _ so
       (planes_apart n (entry k).plane (entry a).plane (j * w + i) (λ e. ne (s.distinct (k, a, no_entry) (omega (arith, s.full, s.counted.1), omega (arith, s.counted), e))) (omega (arith, mul-add-lt j w i h jh iw)))) in
       record {
         same_wide = refl;
@@ -153,14 +122,42 @@ module _ (s : Canvas) where
                   (subst (λ (b : Layer). LayerAgree w h (layer_of w h ys (entry a)) b) (sym (get_or-set_same (view s xs).layers a new clear_layer (omega (arith, view_count xs, s.counted)))) here)
               | inr ne ↦ subst (λ (b : Layer). LayerAgree w h (layer_of w h ys (entry k)) b) (sym (get_or-set_other (view s xs).layers a k new clear_layer ne ∙ view_layer xs k lt)) (other k lt ne)
             ]));
-        same_selected = λ i j iw jh. chosen_kept w h s.bounds xs ys i j (so.kept _ (omega (arith, mul-add-lt j w i h jh iw)) (inr (omega arith)));
-        same_clipboard = λ i j iw jh. framed_pixel xs ys _ so (omega (arith, mul-add-lt j w i h jh iw)) (inr (omega arith));
+        same_selected = λ i j iw jh. so.after _ (omega arith);
+        same_clipboard = λ i j iw jh. pixel_kept _ _ xs ys _ so (inr (omega arith));
+      }
+
+  -- The same from what the loops leave, with the area as the code has it, in a variable m.
+  pub bytes_reselected : (e : Edit) (m : ℕ) (xs ys : List ℕ) (f : ℕ → ℕ) (g : ℕ → ℕ → ℕ) → edited (view s xs) e ≡ with_selected (view s xs) g → m ≡ n →
+      BytesTo f (516 * m) m xs ys → ((i j : ℕ) → i < w → j < h → f (j * w + i) ≡ g i j) → Reselected s e xs ys
+  bytes_reselected e m xs ys f g by a so is =
+      let at : BytesTo f (516 * n) n xs ys = subst (λ (k : ℕ). BytesTo f (516 * k) k xs ys) a so in
+      let to : Wrote (selection_at n) (clipboard_at n) xs ys = record { long = at.long; before = at.before; after = λ q l. at.after q (omega arith) } in
+      record { agrees = subst (Agree (view s ys)) (sym by) (selection_view xs ys g to (λ i j iw jh. at.written (j * w + i) (mul-add-lt j w i h jh iw) ∙ is i j iw jh)); wrote = to }
+
+  pub rows_reselected : (e : Edit) (m : ℕ) (xs ys : List ℕ) (g : ℕ → ℕ → ℕ) → edited (view s xs) e ≡ with_selected (view s xs) g → m ≡ n → RowsTo g (516 * m) w h xs ys → Reselected s e xs ys
+  rows_reselected e m xs ys g by a so =
+      let at : RowsTo g (516 * n) w h xs ys = subst (λ (k : ℕ). RowsTo g (516 * k) w h xs ys) a so in
+      let to : Wrote (selection_at n) (clipboard_at n) xs ys = record { long = at.long; before = at.before; after = λ q l. at.after q (omega arith) } in
+      record { agrees = subst (Agree (view s ys)) (sym by) (selection_view xs ys g to at.written); wrote = to }
+
+  pub filled : (m at : ℕ) (xs ys : List ℕ) (p : Pixel) → m ≡ n → at ≡ plane_at n (entry s.active).plane →
+      PixelsTo (λ k. pixel_lerp (get_or xs (516 * m + k) 0) p (pixel_at xs (at + 4 * k))) at m xs ys → PlaneEdited s (fill p) xs ys
+  filled m at xs ys p a b so =
+      let base = plane_at n (entry s.active).plane in
+      let to : PixelsTo (λ k. pixel_lerp (get_or xs (516 * n + k) 0) p (pixel_at xs (base + 4 * k))) base n xs ys
+      = subst (λ (r : ℕ). PixelsTo (λ k. pixel_lerp (get_or xs (516 * n + k) 0) p (pixel_at xs (r + 4 * k))) r n xs ys) b
+      (subst (λ (k : ℕ). PixelsTo (λ q. pixel_lerp (get_or xs (516 * k + q) 0) p (pixel_at xs (at + 4 * q))) at k xs ys) a so) in
+      let wrote = pixels_wrote _ base n xs ys to in
+      record {
+        agrees = plane_view xs ys _ wrote (λ i j iw jh. to.written (j * w + i) (mul-add-lt j w i h jh iw)
+            ∙ ap (λ (l : Layer). pixel_lerp (get_or xs (516 * n + (j * w + i)) 0) p (l.pixels i j)) (sym (view_layer xs s.active s.counted.0)));
+        wrote = wrote;
       }
 
   -- One clear layer, all selected, a clear clipboard.
-  pub blank_view : (ys : List ℕ) → s.count ≡ 1 → s.active ≡ 0 → s.bounds ≡ whole w h → entry 0 ≡ fresh 0 → ((q : ℕ) → q < n → pixel_at ys (0 + 4 * q) ≡ clear) →
+  pub blank_view : (ys : List ℕ) → s.count ≡ 1 → s.active ≡ 0 → entry 0 ≡ fresh 0 → ((q : ℕ) → q < n → pixel_at ys (0 + 4 * q) ≡ clear) →
       ((q : ℕ) → q < n → get_or ys (516 * n + q) 0 ≡ 255) → ((q : ℕ) → q < n → pixel_at ys (517 * n + 4 * q) ≡ clear) → Agree (view s ys) (blank w h)
-  blank_view ys one low bound is pixels all copied =
+  blank_view ys one low is pixels all copied =
       record {
         same_wide = refl;
         same_high = refl;
@@ -175,9 +172,7 @@ module _ (s : Canvas) where
               same_visible = refl;
               same_pixels = λ i j iw jh. let at : plane_at n 0 + 4 * (j * w + i) ≡ 0 + 4 * (j * w + i) = omega arith in ap (pixel_at ys) at ∙ pixels (j * w + i) (mul-add-lt j w i h jh iw);
             })));
-        same_selected = λ i j iw jh.
-            let byte = all (j * w + i) (mul-add-lt j w i h jh iw) in
-            ap mask_of (and_from _ _ (ap (λ (b : Area). inside b i j) bound ∙ true_inside (whole w h) i j ((omega arith, omega arith), (omega arith, omega arith))) (lt-ltb _ _ (omega arith)));
+        same_selected = λ i j iw jh. all (j * w + i) (mul-add-lt j w i h jh iw);
         same_clipboard = λ i j iw jh. copied (j * w + i) (mul-add-lt j w i h jh iw);
       }
 
@@ -190,7 +185,7 @@ blanked w h m s xs ys zs us e new so to up =
     = λ q l. pixel_before _ _ _ zs us (0 + 4 * q) up (omega arith) ∙ pixel_kept _ _ ys zs (0 + 4 * q) (bytes_wrote _ _ _ ys zs to) (inl (omega arith)) ∙ so.written q l in
     let middle : (q : ℕ) → q < m → get_or us (516 * m + q) 0 ≡ 255 = λ q l. up.before (516 * m + q) (omega arith) ∙ to.written q l in
     let view_is : Agree (view s us) (blank s.wide s.high)
-    = blank_view s us new.one_layer new.lowest (new.all_bound ∙ sym (ap₂ whole new.wide_is new.high_is)) (new.own_planes 0 no_entry (omega arith)) (λ q l. first q (omega arith))
+    = blank_view s us new.one_layer new.lowest (new.own_planes 0 no_entry (omega arith)) (λ q l. first q (omega arith))
     (λ q l. ap (λ k. get_or us (516 * k + q) 0) (sym n) ∙ middle q (omega arith)) (λ q l. ap (λ k. pixel_at us (517 * k + 4 * q)) (sym n) ∙ up.written q (omega arith)) in
     record {
       canvas = new;

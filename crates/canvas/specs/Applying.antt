@@ -1,17 +1,14 @@
 -- An edit applied to a canvas. Assumes nothing.
-use Rattle.std.specs.Prelude.{◌≡◌, ℕ, ◌*◌, ◌<◌, ◌≤◌, true, cond, List, length, slice_index}
-use Rattle.pixel.specs.declared.areas.Area.{Area}
-use Rattle.pixel.specs.Areas.{Around}
+use Rattle.std.specs.Prelude.{◌≡◌, ℕ, true, cond, List, length}
 use Rattle.page.specs.Edits as page
 use Rattle.page.specs.Edits.{edited, set_mode}
 use Rattle.page.specs.Agree.{Agree}
-use Rattle.page.specs.Touched.{Touched}
 use Rattle.page.specs.Fits.{kind}
 use Rattle.codec.specs.declared.edits.Edit.{Edit}
 use Rattle.codec.specs.Meaning.{edit_of}
 use Rattle.codec.specs.Kinds.{built}
 use Rattle.canvas.specs.declared.state.Canvas.{Canvas}
-use Rattle.canvas.specs.View.{selection_at, view}
+use Rattle.canvas.specs.View.{view}
 
 -- an edit of a kind that there is
 abbrev pub Built : List ℕ → Edit → Type 0
@@ -21,11 +18,9 @@ Built bs e = built (kind (edit_of bs e)) ≡ true
 abbrev pub known : page.Edit → page.Edit
 known e = cond (built (kind e)) e (set_mode 255)
 
--- the page is the one before, edited, and of the same size; r is the smallest part around the pixels that the edit touches; the tiles are as they were
-pub record Applied (s : Canvas) (e : page.Edit) (xs : List ℕ) (r : Area) (t : Canvas) (ys : List ℕ) : Type 0 where
+-- the page is the one before, edited, and of the same size
+pub record Applied (s : Canvas) (e : page.Edit) (xs : List ℕ) (t : Canvas) (ys : List ℕ) : Type 0 where
   pub agrees : Agree (view t ys) (edited (view s xs) e)
   pub same_wide : t.wide ≡ s.wide
   pub same_high : t.high ≡ s.high
-  pub exact : Around (Touched (view s xs) e) r
   pub long : length ys ≡ length xs
-  pub tiles_kept : (q : ℕ) → 512 * (s.wide * s.high) ≤ q → q < selection_at (s.wide * s.high) → slice_index ys q ≡ slice_index xs q

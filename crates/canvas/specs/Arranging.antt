@@ -1,11 +1,8 @@
 -- Entries of layers that change places, and what the edits of layers leave. Assumes nothing.
 use Rattle.std.specs.Prelude.{◌≡◌, ℕ, ◌+◌, ◌-◌, ◌*◌, ◌<◌, cond, List, length, get_or, ◌==◌, nat_le, nat_lt, slice_index_or}
-use Rattle.pixel.specs.declared.areas.Area.{Area}
-use Rattle.pixel.specs.Areas.{Around}
 use Rattle.pixel.specs.Bytes.{Wrote}
 use Rattle.page.specs.Edits.{Edit, edited}
 use Rattle.page.specs.Agree.{Agree}
-use Rattle.page.specs.Touched.{Touched}
 use Rattle.canvas.specs.declared.state.Layer.{Layer as Entry}
 use Rattle.canvas.specs.declared.state.Canvas.{Canvas}
 use Rattle.canvas.specs.View.{plane_at, no_entry, view}
@@ -29,13 +26,11 @@ pub record Arranged (s : Canvas) (ls : List Entry) (f : ℕ → ℕ) (n a : ℕ)
   pub high_is : t.high ≡ s.high
   pub count_is : t.count ≡ n
   pub active_is : t.active ≡ a
-  pub bounds_is : t.bounds ≡ s.bounds
   pub entries : Reordered f ls t.layers
 
--- an edit of the layers: the page is the one before, edited, and of the same size; r is all of it, or nowhere if the edit changes nothing
-pub record LayersEdited (s : Canvas) (e : Edit) (xs : List ℕ) (r : Area) (t : Canvas) (ys : List ℕ) : Type 0 where
+-- an edit of the layers: the page is the one before, edited, and of the same size
+pub record LayersEdited (s : Canvas) (e : Edit) (xs : List ℕ) (t : Canvas) (ys : List ℕ) : Type 0 where
   pub agrees : Agree (view t ys) (edited (view s xs) e)
-  pub exact : Around (Touched (view s xs) e) r
   pub same_wide : t.wide ≡ s.wide
   pub same_high : t.high ≡ s.high
 
@@ -44,6 +39,6 @@ abbrev pub plane_start : Canvas → ℕ → ℕ
 plane_start s k = plane_at (s.wide * s.high) (get_or s.layers k no_entry).plane
 
 -- the same, and of the bytes only those of the plane of entry k are written
-pub record LayersPainted (s : Canvas) (e : Edit) (k : ℕ) (xs : List ℕ) (r : Area) (t : Canvas) (ys : List ℕ) : Type 0 where
-  pub edit : LayersEdited s e xs r t ys
+pub record LayersPainted (s : Canvas) (e : Edit) (k : ℕ) (xs : List ℕ) (t : Canvas) (ys : List ℕ) : Type 0 where
+  pub edit : LayersEdited s e xs t ys
   pub wrote : Wrote (plane_start s k) (plane_start s k + 4 * (s.wide * s.high)) xs ys

@@ -1,17 +1,13 @@
 -- The page read off the canvas and the lent bytes, and what each operation on them leaves. Assumes nothing.
-use Rattle.std.specs.Prelude.{◌≡◌, ℕ, ◌+◌, ◌*◌, ◌<◌, ◌≤◌, Bool, true, false, ◌&&◌, ◌⊎◌, List, map, length, get_or, take, nat_lt, slice_index, slice_index_or}
+use Rattle.std.specs.Prelude.{◌≡◌, ℕ, ◌+◌, ◌*◌, ◌<◌, ◌≤◌, true, false, List, map, length, get_or, take, slice_index, slice_index_or}
 use Rattle.pixel.specs.declared.Pixel.{Pixel}
-use Rattle.pixel.specs.declared.areas.Area.{Area}
 use Rattle.pixel.specs.declared.modes.Mode.TheVariants.{Normal}
 use Rattle.pixel.specs.Pixels.{white}
 use Rattle.pixel.specs.Modes.{mode_number}
-use Rattle.pixel.specs.Areas.{inside, whole, Around}
 use Rattle.pixel.specs.Bytes.{pixel_at, Wrote}
 use Rattle.page.specs.Layers.{Layer, composite}
-use Rattle.page.specs.Selection.{mask_of}
 use Rattle.page.specs.Edits.{Page, Edit, edited, blank}
 use Rattle.page.specs.Agree.{Agree}
-use Rattle.page.specs.Touched.{Touched}
 use Rattle.canvas.specs.declared.state.Layer.{Layer as Entry}
 use Rattle.canvas.specs.declared.state.Canvas.{Canvas}
 
@@ -24,10 +20,6 @@ selection_at n = 516 * n
 
 abbrev pub clipboard_at : ℕ → ℕ
 clipboard_at n = 517 * n
-
--- what is behind is no part of the page; there an edit keeps the pixels that it is about to change
-abbrev pub kept_at : ℕ → ℕ
-kept_at n = 526 * n
 
 -- the entry of a new layer with a plane; and what an array's element reads as beyond its end
 abbrev pub fresh : ℕ → Entry
@@ -44,10 +36,6 @@ layer_of w h xs l =
 abbrev pub layers_of : ℕ → ℕ → List ℕ → List Entry → List Layer
 layers_of w h xs ls = map (layer_of w h xs) ls
 
--- whether a pixel is selected: none outside the bounds, whatever the bytes; inside those whose byte is not 0
-abbrev pub chosen : ℕ → ℕ → Area → List ℕ → ℕ → ℕ → Bool
-chosen w h b xs i j = inside b i j && nat_lt 0 (slice_index xs (selection_at (w * h) + (j * w + i)))
-
 -- THE PAGE that the canvas and the bytes mean
 abbrev pub view : Canvas → List ℕ → Page
 view s xs =
@@ -56,7 +44,7 @@ view s xs =
       high = s.high;
       layers = layers_of s.wide s.high xs (take s.count s.layers);
       active = s.active;
-      selected = λ i j. mask_of (chosen s.wide s.high s.bounds xs i j);
+      selected = λ i j. slice_index xs (selection_at (s.wide * s.high) + (j * s.wide + i));
       clipboard = λ i j. pixel_at xs (clipboard_at (s.wide * s.high) + 4 * (j * s.wide + i));
     }
 
@@ -78,7 +66,6 @@ pub record FreshCanvas (w h : ℕ) (s : Canvas) : Type 0 where
   pub high_is : s.high ≡ h
   pub one_layer : s.count ≡ 1
   pub lowest : s.active ≡ 0
-  pub all_bound : s.bounds ≡ whole w h
   pub own_planes : (k : ℕ) (d : Entry) → k < 64 → slice_index_or s.layers k d ≡ fresh k
 
 -- the blank page: in bytes the first plane, the selection and the clipboard; all others stay
@@ -89,31 +76,14 @@ pub record BlankMade (w h : ℕ) (xs ys : List ℕ) (s : Canvas) : Type 0 where
   pub between : (q : ℕ) → 4 * (w * h) ≤ q → q < selection_at (w * h) → slice_index ys q ≡ slice_index xs q
   pub beyond : (q : ℕ) → 521 * (w * h) ≤ q → slice_index ys q ≡ slice_index xs q
 
--- where the plane of the active layer begins
-abbrev pub active_at : Canvas → ℕ
-active_at s = plane_at (s.wide * s.high) (get_or s.layers s.active no_entry).plane
-
--- the same canvas with other bounds
-pub record Rebound (s t : Canvas) : Type 0 where
-  pub same_wide : t.wide ≡ s.wide
-  pub same_high : t.high ≡ s.high
-  pub same_layers : t.layers ≡ s.layers
-  pub same_count : t.count ≡ s.count
-  pub same_active : t.active ≡ s.active
-
--- an edit of the selection: its bytes alone are written, and its bounds
-pub record Reselected (s : Canvas) (e : Edit) (xs : List ℕ) (t : Canvas) (ys : List ℕ) : Type 0 where
-  pub agrees : Agree (view t ys) (edited (view s xs) e)
-  pub rebound : Rebound s t
+-- an edit of the selection: its bytes alone are written
+pub record Reselected (s : Canvas) (e : Edit) (xs ys : List ℕ) : Type 0 where
+  pub agrees : Agree (view s ys) (edited (view s xs) e)
   pub wrote : Wrote (selection_at (s.wide * s.high)) (clipboard_at (s.wide * s.high)) xs ys
 
--- of the bytes only the active layer's plane is written, and what is no part of the page
-pub record Framed (s : Canvas) (xs ys : List ℕ) : Type 0 where
-  pub long : length ys ≡ length xs
-  pub kept : (q : ℕ) → q < kept_at (s.wide * s.high) → (q < active_at s) ⊎ (active_at s + 4 * (s.wide * s.high) ≤ q) → slice_index ys q ≡ slice_index xs q
-
--- an edit of the active layer's pixels, and the smallest part of the page around those that it changed
-pub record Painted (s : Canvas) (e : Edit) (xs : List ℕ) (r : Area) (ys : List ℕ) : Type 0 where
+-- an edit of the active layer's pixels: its plane alone is written
+pub record PlaneEdited (s : Canvas) (e : Edit) (xs ys : List ℕ) : Type 0 where
   pub agrees : Agree (view s ys) (edited (view s xs) e)
-  pub exact : Around (Touched (view s xs) e) r
-  pub frame : Framed s xs ys
+  pub wrote :
+      Wrote (plane_at (s.wide * s.high) (get_or s.layers s.active no_entry).plane)
+      (plane_at (s.wide * s.high) (get_or s.layers s.active no_entry).plane + 4 * (s.wide * s.high)) xs ys

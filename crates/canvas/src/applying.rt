@@ -7,54 +7,43 @@ ghost use Rattle.canvas.specs.Applying.{known, Applied};
 
 use crate::state::{Canvas, Rect};
 use codec::edits::Edit;
-use pixel::areas::{Area, NOWHERE};
 
-// One edit, if it is of a kind that there is; `source` holds its points or numbers. It says which part of the page it touches.
-pub fn apply(canvas: &mut Canvas, tiles: &mut [u8], edit: Edit, source: &[u8]) -> Area
+// One edit, if it is of a kind that there is; `source` holds its points or numbers.
+pub fn apply(canvas: &mut Canvas, tiles: &mut [u8], edit: Edit, source: &[u8])
     requires { 544 * (canvas.old.wide * canvas.old.high) ≤ length tiles.old }
-    ensures { Applied canvas.old (known (edit_of source.now edit)) tiles.old result canvas.new tiles.new }
+    ensures { Applied canvas.old (known (edit_of source.now edit)) tiles.old canvas.new tiles.new }
 {
     match edit {
         Edit::AddLayer => canvas.add_layer(tiles),
         Edit::DropLayer => canvas.drop_layer(),
-        Edit::ChooseLayer(k) => {
-            canvas.choose_layer(k);
-            NOWHERE
-        }
+        Edit::ChooseLayer(k) => canvas.choose_layer(k),
         Edit::RaiseLayer => canvas.raise_layer(),
         Edit::SetMode(m) => canvas.set_mode(m),
         Edit::SetOpacity(a) => canvas.set_opacity(a),
         Edit::SetVisible(b) => canvas.set_visible(b),
         Edit::MergeDown => canvas.merge_down(tiles),
-        Edit::SelectAll => {
-            canvas.select_all(tiles);
-            NOWHERE
-        }
+        Edit::SelectAll => canvas.select_all(tiles),
         Edit::SelectRect {
             x,
             y,
             width,
             height,
-        } => {
-            let rect = Rect {
+        } => canvas.select_rect(
+            tiles,
+            Rect {
                 x,
                 y,
                 width,
                 height,
-            };
-            canvas.select_rect(tiles, rect);
-            NOWHERE
-        }
-        Edit::SelectInverse => {
-            canvas.select_inverse(tiles);
-            NOWHERE
-        }
+            },
+        ),
+        Edit::SelectInverse => canvas.select_inverse(tiles),
         Edit::Fill(p) => canvas.fill_selected(tiles, p),
         Edit::SelectSimilar { .. }
         | Edit::Stroke { .. }
         | Edit::ApplyFilter(_)
         | Edit::Copy
-        | Edit::Paste { .. } => NOWHERE,
+        | Edit::Paste { .. } => {}
     }
 }
 

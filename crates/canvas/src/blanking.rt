@@ -5,7 +5,6 @@ ghost use Rattle.canvas.specs.View.{Room, FreshCanvas, BlankMade};
 use crate::layout::area;
 use crate::state::{Canvas, Layer};
 use pixel::CLEAR;
-use pixel::areas::Area;
 use pixel::modes::Mode;
 use pixel::runs::{set_bytes, set_pixels};
 
@@ -34,12 +33,6 @@ fn new_canvas(wide: usize, high: usize) -> Canvas
         layers,
         count: 1,
         active: 0,
-        bounds: Area {
-            left: 0,
-            top: 0,
-            wide,
-            high,
-        },
     }
 }
 

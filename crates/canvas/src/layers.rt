@@ -1,13 +1,11 @@
-// Edits of the layers: entries change places, and pixels stay where they are. Each says which part of the page it touches: all, or nothing where it changes nothing.
+// Edits of the layers: entries change places, and pixels stay where they are.
 ghost use Rattle.std.specs.Prelude.{◌≡◌, ℕ, ◌+◌, ◌-◌, ◌*◌, ◌<◌, ◌≤◌, List, length, MatchOption};
-ghost use Rattle.pixel.specs.Areas.{nowhere, whole};
 ghost use Rattle.page.specs.Edits.{add_layer, drop_layer, choose_layer, raise_layer, set_mode, set_opacity, set_visible};
 ghost use Rattle.canvas.specs.Arranging.{from_lowered, from_raised, Reordered, Arranged, LayersEdited, LayersPainted};
 
 use crate::layout::area;
 use crate::state::{Canvas, Layer};
 use pixel::CLEAR;
-use pixel::areas::{Area, NOWHERE};
 use pixel::modes::Mode;
 use pixel::runs::set_pixels;
 
@@ -28,18 +26,6 @@ fn raise_entry(layers: &mut [Layer; 64], lo: usize, hi: usize)
 }
 
 impl Canvas {
-    // All of the page.
-    pub fn everywhere(&self) -> Area
-        ensures { result ≡ whole self.now.wide self.now.high }
-    {
-        Area {
-            left: 0,
-            top: 0,
-            wide: self.wide,
-            high: self.high,
-        }
-    }
-
     // The layer above the active one, if there is one.
     fn above(&self) -> Option<usize>
         ensures { MatchOption result (self.now.count ≤ self.now.active + 1) (λ k. (k ≡ self.now.active + 1) × (k < self.now.count)) }
@@ -53,13 +39,13 @@ impl Canvas {
     }
 
     // A clear layer above the active one: the spare plane at `count` is cleared, and its entry comes into place.
-    pub fn add_layer(&mut self, tiles: &mut [u8]) -> Area
+    pub fn add_layer(&mut self, tiles: &mut [u8])
         requires { 544 * (self.old.wide * self.old.high) ≤ length tiles.old }
-        ensures { LayersPainted self.old add_layer self.old.count tiles.old result self.new tiles.new }
+        ensures { LayersPainted self.old add_layer self.old.count tiles.old self.new tiles.new }
     {
         let count = self.count;
         if count >= 64 {
-            return NOWHERE;
+            return;
         }
         let n = area(self.wide, self.high);
         set_pixels(tiles, self.plane_of(count), n, CLEAR);
@@ -72,7 +58,6 @@ impl Canvas {
         lower_entry(&mut self.layers, self.active + 1, count);
         self.count += 1;
         self.active += 1;
-        self.everywhere()
     }
 
     // Takes the active layer out: its entry goes behind the others, its plane is spare, and the one below becomes active, or the lowest.
@@ -86,19 +71,17 @@ impl Canvas {
     }
 
     // Drops the active layer, unless it is the last one.
-    pub fn drop_layer(&mut self) -> Area
-        ensures { (xs : List ℕ) → LayersEdited self.old drop_layer xs result self.new xs }
+    pub fn drop_layer(&mut self)
+        ensures { (xs : List ℕ) → LayersEdited self.old drop_layer xs self.new xs }
     {
-        if self.count <= 1 {
-            return NOWHERE;
+        if self.count > 1 {
+            self.take_out();
         }
-        self.take_out();
-        self.everywhere()
     }
 
     // Layer k becomes active, if there is one.
     pub fn choose_layer(&mut self, k: u8)
-        ensures { (xs : List ℕ) → LayersEdited self.old (choose_layer k) xs nowhere self.new xs }
+        ensures { (xs : List ℕ) → LayersEdited self.old (choose_layer k) xs self.new xs }
     {
         let k = k as usize;
         if k < self.count {
@@ -107,56 +90,39 @@ impl Canvas {
     }
 
     // The active layer changes places with the one above it, if there is one.
-    pub fn raise_layer(&mut self) -> Area
-        ensures { (xs : List ℕ) → LayersEdited self.old raise_layer xs result self.new xs }
+    pub fn raise_layer(&mut self)
+        ensures { (xs : List ℕ) → LayersEdited self.old raise_layer xs self.new xs }
     {
         let Some(above) = self.above() else {
-            return NOWHERE;
+            return;
         };
         raise_entry(&mut self.layers, self.active, above);
         self.active = above;
-        self.everywhere()
     }
 
     // The active layer's blend mode, if there is one of this number.
-    pub fn set_mode(&mut self, m: u8) -> Area
-        ensures { (xs : List ℕ) → LayersEdited self.old (set_mode m) xs result self.new xs }
+    pub fn set_mode(&mut self, m: u8)
+        ensures { (xs : List ℕ) → LayersEdited self.old (set_mode m) xs self.new xs }
     {
         let Some(mode) = Mode::from_byte(m) else {
-            return NOWHERE;
+            return;
         };
-        let old = self.layers[self.active].mode.number();
-        if old == m {
-            return NOWHERE;
-        }
         self.layers[self.active].mode = mode;
-        self.everywhere()
     }
 
     // Its opacity, if it is one.
-    pub fn set_opacity(&mut self, a: u16) -> Area
-        ensures { (xs : List ℕ) → LayersEdited self.old (set_opacity a) xs result self.new xs }
+    pub fn set_opacity(&mut self, a: u16)
+        ensures { (xs : List ℕ) → LayersEdited self.old (set_opacity a) xs self.new xs }
     {
-        if a >= 256 {
-            return NOWHERE;
+        if a < 256 {
+            self.layers[self.active].opacity = a as u8;
         }
-        let old = self.layers[self.active].opacity as u16;
-        if old == a {
-            return NOWHERE;
-        }
-        self.layers[self.active].opacity = a as u8;
-        self.everywhere()
     }
 
     // Whether it is visible.
-    pub fn set_visible(&mut self, b: bool) -> Area
-        ensures { (xs : List ℕ) → LayersEdited self.old (set_visible b) xs result self.new xs }
+    pub fn set_visible(&mut self, b: bool)
+        ensures { (xs : List ℕ) → LayersEdited self.old (set_visible b) xs self.new xs }
     {
-        let old = self.layers[self.active].visible;
-        if old == b {
-            return NOWHERE;
-        }
         self.layers[self.active].visible = b;
-        self.everywhere()
     }
 }

@@ -7,7 +7,6 @@ ghost use Rattle.canvas.specs.Arranging.{LayersPainted};
 
 use crate::layout::area;
 use crate::state::Canvas;
-use pixel::areas::{Area, NOWHERE};
 use pixel::pixels::{merge_pixel, read_pixel, write_pixel};
 
 // The n pixels from `from` on merged into those from `at` on.
@@ -35,12 +34,12 @@ impl Canvas {
     }
 
     // Merges the active layer into the one below, which becomes active; whatever its mode, and whether or not it is visible.
-    pub fn merge_down(&mut self, tiles: &mut [u8]) -> Area
+    pub fn merge_down(&mut self, tiles: &mut [u8])
         requires { 544 * (self.old.wide * self.old.high) ≤ length tiles.old }
-        ensures { LayersPainted self.old merge_down (self.old.active - 1) tiles.old result self.new tiles.new }
+        ensures { LayersPainted self.old merge_down (self.old.active - 1) tiles.old self.new tiles.new }
     {
         let Some(below) = self.below() else {
-            return NOWHERE;
+            return;
         };
         let n = area(self.wide, self.high);
         let opacity = self.layers[self.active].opacity;
@@ -48,6 +47,5 @@ impl Canvas {
         let from = self.plane_of(self.active);
         merge_pixels(tiles, at, from, n, opacity);
         self.take_out();
-        self.everywhere()
     }
 }

@@ -1,8 +1,7 @@
 // The canvas: its size, and its layers from below. Pixels lie in lent memory; entries past `count` hold the spare planes.
-ghost use Rattle.std.specs.Prelude.{◌≡◌, ℕ, ◌+◌, ◌<◌, ◌≤◌, length, slice_index_or};
+ghost use Rattle.std.specs.Prelude.{◌≡◌, ℕ, ◌<◌, ◌≤◌, length, slice_index_or};
 ghost use Rattle.canvas.specs.declared.state.Layer.{Layer};
 
-use pixel::areas::Area;
 use pixel::modes::Mode;
 
 // A layer: the plane of the lent memory that holds its pixels, and how it is laid on what is below.
@@ -21,14 +20,11 @@ pub struct Canvas {
     pub layers: [Layer; 64],
     pub count: usize,
     pub active: usize,
-    // outside it no pixel is selected, whatever the selection's bytes hold
-    pub bounds: Area,
     ghost sized: { (1 ≤ wide) × (wide ≤ 4096) × (1 ≤ high) × (high ≤ 4096) },
     ghost full: { length layers ≡ 64 },
     ghost counted: { (active < count) × (count ≤ 64) },
     ghost planes: { (k : ℕ) (d : Layer) → k < 64 → (slice_index_or layers k d).plane < 64 },
     ghost distinct: { (p : ℕ × ℕ × Layer) → (p.0 < 64) × (p.1 < 64) × ((slice_index_or layers p.0 p.2).plane ≡ (slice_index_or layers p.1 p.2).plane) → p.0 ≡ p.1 },
-    ghost bounded: { (bounds.left + bounds.wide ≤ wide) × (bounds.top + bounds.high ≤ high) },
 }
 
 // A rectangle of pixels: its left column and top row, its width and height. It may reach beyond the page.

@@ -1,4 +1,6 @@
 // Turns and files in bytes. Strokes and curves are held by where their points and numbers start in the bytes.
+#![tactic(auto)]
+
 pub mod edits;
 pub mod file;
 pub mod kinds;

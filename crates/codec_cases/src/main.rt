@@ -5,6 +5,8 @@
 //     file TURNS TILES WORK BYTES..   a file, and how long the lent slices are
 //
 // A byte is two hexadecimal digits; `00*5` is five of them. Blank lines and those that begin with `#` are printed as they are.
+#![tactic(auto)]
+
 use anyhow::anyhow;
 use codec::edits::{Lent, Refusal};
 use codec::file::{Lengths, read_file};

@@ -1,4 +1,6 @@
 // The editor: begin, turn, show, write and read over lent memory; and the theorems about whole runs.
+#![tactic(auto)]
+
 pub mod desk;
 pub mod editing;
 pub mod files;

@@ -2,17 +2,13 @@
 use Rattle.std.proofs.Common.{◌≡◌, ℕ, zero, suc, ◌+◌, ◌-◌, ◌*◌, ◌<◌, ◌≤◌, true, ◌⊎◌, List, [], ◌∷◌, ◌++◌, length, get_or, take, drop, sym, refl, ap, ◌∙◌, subst, ap₂, subst₂, inl, inr, append_assoc, append-nil, add-one, arith, length-drop}
 use Rattle.std.proofs.lemmas.List.{same_lists, take-append-drop, length-take-le, get_or-take, get_or-drop, get_or_default}
 use Rattle.std.proofs.lemmas.Bool.{cond-true, cases_order}
-use Rattle.pixel.specs.declared.areas.Area.{Area}
-use Rattle.pixel.specs.Areas.{AreaIn}
-use Rattle.pixel.specs.Bytes.{pixel_at, BytesTo, Wrote}
-use Rattle.pixel.proofs.Differing.{around_in}
+use Rattle.pixel.specs.Bytes.{BytesTo, Wrote}
 use Rattle.page.specs.Edits.{Page, Edit, edited, blank, after, seen}
 use Rattle.page.specs.History.{History, Turn, turned, does, undo, redo, in_order}
 use Rattle.page.specs.Fits.{kind}
 use Rattle.page.specs.Agree.{Agree}
 use Rattle.page.proofs.Undo.{after_more, done_in_order}
 use Rattle.page.proofs.Agreeing.{agree_trans, edits_agree, seen_agree}
-use Rattle.page.proofs.Touching.{untouched_seen}
 use Rattle.codec.specs.Laws.{EditBytes}
 use Rattle.codec.specs.Meaning.{Bytes}
 use Rattle.codec.specs.Written.{written}
@@ -20,14 +16,11 @@ use Rattle.codec.proofs.Writes.{written_short}
 use Rattle.canvas.specs.declared.state.Canvas.{Canvas}
 use Rattle.canvas.specs.Applying.{known, Applied}
 use Rattle.canvas.specs.View.{view}
-use Rattle.canvas.proofs.Views.{view_kept, view_formed}
-use Rattle.tiles.specs.Places.{place, AllBuilt, BuiltWhere, Meets, OnlyIn, Shown}
-use Rattle.tiles.specs.Sizes.{met_size}
-use Rattle.tiles.proofs.Kept.{shown_kept}
+use Rattle.canvas.proofs.Views.{view_kept}
+use Rattle.tiles.specs.Places.{AllBuilt, Shown}
 use Rattle.history.specs.declared.moves.Counts.{Counts}
-use Rattle.history.specs.declared.moves.Step.{Step}
 use Rattle.history.specs.Slots.{slot_edit, latest_in, edits_in, history_in, made_by, Holds, SlotPut}
-use Rattle.history.specs.Moves.{Rebuilds, Moved}
+use Rattle.history.specs.Moves.{Moved}
 use Rattle.history.proofs.Standing.{stands_read, slot_same}
 
 -- one edit more, applied
@@ -61,18 +54,9 @@ no_undo turns d u e = subst (λ (k : ℕ). history_in turns k u ≡ turned (hist
 pub no_redo : (turns : List ℕ) (d u : ℕ) → u ≡ 0 → history_in turns d u ≡ turned (history_in turns d u) redo
 no_redo turns d u e = subst (λ (k : ℕ). history_in turns d k ≡ turned (history_in turns d k) redo) (sym e) refl
 
-pub stays : (t : Turn) (s : Canvas) (c : Counts) (turns tiles : List ℕ) (p : Step) → p.counts ≡ c → history_in turns c.done c.undone ≡ turned (history_in turns c.done c.undone) t → Rebuilds t s c tiles p.rebuilt → Moved t s c turns tiles s p turns tiles
-stays t s c turns tiles p is e none =
-    record {
-      same_wide = refl;
-      same_high = refl;
-      turns_long = refl;
-      tiles_long = refl;
-      few = omega (arith, ap (λ (k : Counts). k.done + k.undone) is);
-      history_next = ap (λ (k : Counts). history_in turns k.done k.undone) is ∙ e;
-      holds_next = λ a. subst (λ (k : Counts). Holds s (latest_in turns k.done) tiles) (sym is) a;
-      rebuilds = none;
-    }
+pub stays : (t : Turn) (s : Canvas) (c : Counts) (turns tiles : List ℕ) → history_in turns c.done c.undone ≡ turned (history_in turns c.done c.undone) t → Moved t s c turns tiles s c turns tiles
+stays t s c turns tiles e =
+    record { same_wide = refl; same_high = refl; turns_long = refl; tiles_long = refl; few = omega arith; history_next = e; holds_next = λ a. a }
 
 -- A NEW EDIT, whose bytes are copied into the slot behind those that are done.
 slot_written : (bs turns turns' : List ℕ) (d : ℕ) (e : Edit) → EditBytes bs e → 8192 * d + length bs ≤ length turns → BytesTo (λ k. get_or bs k 0) (8192 * d) (length bs) turns turns' → slot_edit turns' d ≡ e
@@ -110,50 +94,24 @@ pub edits_kept : (xs ys : List ℕ) (a n : ℕ) → ((j : ℕ) → j < a + n →
 edits_kept xs ys a zero same = refl
 edits_kept xs ys a (suc n) same = ap₂ (λ e es. e ∷ es) (same a (omega arith)) (edits_kept xs ys (suc a) n (λ j l. same j (omega arith)))
 
--- tiles of two canvases of one size show a page alike
-shown_moved : (w h w' h' : ℕ) (p : Page) (xs ys : List ℕ) → w ≡ w' → h ≡ h' → ((i j : ℕ) → i < w → j < h → pixel_at ys (place w h i j) ≡ seen p i j) → (i j : ℕ) → i < w' → j < h' → pixel_at ys (place w' h' i j) ≡ seen p i j
-shown_moved w h w' h' p xs ys ws hs so = subst₂ (λ (a b : ℕ). (i j : ℕ) → i < a → j < b → pixel_at ys (place a b i j) ≡ seen p i j) ws hs so
-
--- AN EDIT AND A REBUILD of the tiles that it touches: tiles that held the page hold the page edited
-pub edit_holds : (s t : Canvas) (es : List Edit) (e : Edit) (r : Area) (xs mid ys : List ℕ) → Holds s es xs → Applied s e xs r t mid → Wrote (512 * (t.wide * t.high)) (516 * (t.wide * t.high)) mid ys →
-    ((before : Page) → Shown t before mid → OnlyIn r before (view t mid) → Shown t (view t ys) ys) → Holds t (e ∷ es) ys
-edit_holds s t es e r xs mid ys held so wrote shows =
-    let w = s.wide in
-    let h = s.high in
-    let p = made_by w h es in
-    let was : Shown t p mid
-    = shown_moved w h t.wide t.high p xs mid (sym so.same_wide) (sym so.same_high) (shown_kept s p xs mid so.tiles_kept held.shown) in
-    let only : OnlyIn r p (view t mid)
-    = λ i j iw jh out.
-    let iw' : i < w = omega (arith, so.same_wide) in
-    let jh' : j < h = omega (arith, so.same_high) in
-    sym (seen_agree (view s xs) p i j held.agrees iw' jh') ∙ sym (untouched_seen (view s xs) e i j (view_formed s xs) iw' jh' (λ u. out (so.exact.covers i j u))) ∙ sym (seen_agree (view t mid) (edited (view s xs) e) i j so.agrees iw jh) in
-    let agrees : Agree (view t ys) (made_by w h (e ∷ es))
-    = agree_trans _ _ _ (view_kept t mid ys (512 * (t.wide * t.high)) (516 * (t.wide * t.high)) (omega arith) (omega arith) wrote) (made_more w h es e (view s xs) (view t mid) held.agrees so.agrees) in
-    subst₂ (λ (a b : ℕ). Agree (view t ys) (made_by a b (e ∷ es)) → Holds t (e ∷ es) ys) so.same_wide so.same_high
-    (λ same. record { agrees = same; shown = λ i j iw jh. shows p was only i j iw jh ∙ seen_agree (view t ys) (made_by t.wide t.high (e ∷ es)) i j same iw jh }) agrees
-
-pub touched_in : (s t : Canvas) (e : Edit) (r : Area) (xs mid : List ℕ) → Applied s e xs r t mid → AreaIn t.wide t.high r
-touched_in s t e r xs mid so = subst₂ (λ (a b : ℕ). AreaIn a b r) (sym so.same_wide) (sym so.same_high) (around_in _ s.wide s.high r (λ i j u. (u.0, u.1)) so.exact)
-
-pub did_edit : (bs turns turns' tiles mid tiles' : List ℕ) (s t : Canvas) (c : Counts) (e f : Edit) (r : Area) (n : ℕ) → EditBytes bs e → SlotPut bs c.done turns turns' → f ≡ slot_edit turns' c.done →
-    Applied s f tiles r t mid → BuiltWhere (Meets r) t mid tiles' → ((before : Page) → Shown t before mid → OnlyIn r before (view t mid) → Shown t (view t tiles') tiles') → n ≡ met_size t.wide t.high r →
-    Moved (does e) s c turns tiles t (record { counts = counts (c.done + 1) 0; rebuilt = n }) turns' tiles'
-did_edit bs turns turns' tiles mid tiles' s t c e f r n b put is done built shows size =
+pub did_edit : (bs turns turns' tiles mid tiles' : List ℕ) (s t : Canvas) (c : Counts) (e f : Edit) → EditBytes bs e → SlotPut bs c.done turns turns' → f ≡ slot_edit turns' c.done → Applied s f tiles t mid → AllBuilt t mid tiles' →
+    Moved (does e) s c turns tiles t (record { done = c.done + 1; undone = 0 }) turns' tiles'
+did_edit bs turns turns' tiles mid tiles' s t c e f b put is applied all =
     let d = c.done in
     let new : slot_edit turns' d ≡ e = put.here e b in
     let old : latest_in turns' d ≡ latest_in turns d = latest_kept turns turns' d (λ j l. put.others j (λ x. omega arith)) in
     let row : latest_in turns' (d + 1) ≡ e ∷ latest_in turns d = ap (latest_in turns') (add-one d) ∙ ap₂ (λ x xs. x ∷ xs) new old in
-    let applied : Applied s e tiles r t mid = subst (λ (x : Edit). Applied s x tiles r t mid) (is ∙ new) done in
     record {
       same_wide = applied.same_wide;
       same_high = applied.same_high;
       turns_long = put.long;
-      tiles_long = built.wrote.long ∙ applied.long;
+      tiles_long = all.wrote.long ∙ applied.long;
       few = omega arith;
       history_next = ap (λ (es : List Edit). let b : History = record { done = es; undone = [] } in b) row;
-      holds_next = λ held. subst (λ (es : List Edit). Holds t es tiles') (sym row) (edit_holds s t (latest_in turns d) e r tiles mid tiles' held applied built.wrote shows);
-      rebuilds = (r, applied.exact, size ∙ ap₂ (λ (a b : ℕ). met_size a b r) applied.same_wide applied.same_high);
+      holds_next = λ held. subst (λ (es : List Edit). Holds t es tiles') (sym row)
+          (all_hold t (e ∷ latest_in turns d) mid tiles'
+          (subst₂ (λ w h. Agree (view t mid) (made_by w h (e ∷ latest_in turns d))) (sym applied.same_wide) (sym applied.same_high)
+          (made_more s.wide s.high (latest_in turns d) e (view s tiles) (view t mid) held.agrees (subst (λ (x : Edit). Agree (view t mid) (edited (view s tiles) x)) (is ∙ new) applied.agrees))) all);
     }
 
 -- ROWS OF SLOTS: one more at the end, two rows joined, and the done edits in their order

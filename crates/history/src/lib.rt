@@ -1,5 +1,6 @@
 // Slots of turns, and what undo, redo and a new edit make of the page.
-pub mod applying;
+#![tactic(auto)]
+
 pub mod filing;
 pub mod moves;
 pub mod slots;

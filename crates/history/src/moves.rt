@@ -1,16 +1,15 @@
-// What a turn that is taken does: undo and redo make the page anew; a new edit is kept in its slot and applied, and the tiles that it touches are rebuilt.
+// What a turn that is taken does: undo and redo make the page anew; a new edit is kept in its slot and applied.
 ghost use Rattle.std.specs.Prelude.{◌≡◌, ℕ, ◌+◌, ◌*◌, ◌≤◌, length};
 ghost use Rattle.page.specs.Edits.{Edit as Model};
 ghost use Rattle.page.specs.History.{undo as model-undo, redo as model-redo, does};
 ghost use Rattle.codec.specs.Laws.{EditBytes};
 ghost use Rattle.history.specs.Moves.{Moved, Lends};
 
-use crate::applying::apply;
 use crate::slots::{put_slot, remake};
-use canvas::layout::area;
+use canvas::applying::apply;
 use canvas::state::Canvas;
 use codec::read::edit_at;
-use tiles::rebuilding::rebuild;
+use tiles::rebuilding::rebuild_all;
 
 // How many edits are done and how many undone.
 #[derive(Clone, Copy)]
@@ -19,68 +18,35 @@ pub struct Counts {
     pub undone: usize,
 }
 
-// What a turn comes to: the counts then, and how many pixels it rebuilt.
-#[derive(Clone, Copy)]
-pub struct Step {
-    pub counts: Counts,
-    pub rebuilt: u64,
-}
-
-// A turn that changes nothing.
-fn stay(counts: Counts) -> Step
-    ensures is { result.counts ≡ counts }
-    ensures none { result.rebuilt ≡ 0 }
-{
-    Step { counts, rebuilt: 0 }
-}
-
 // Takes back the last edit that is done, if there is one.
-pub fn undo(
-    canvas: &mut Canvas,
-    counts: Counts,
-    turns: &[u8],
-    tiles: &mut [u8],
-    work: &mut [u32],
-) -> Step
-    requires { Lends canvas.old counts turns.now tiles.old work.old }
+pub fn undo(canvas: &mut Canvas, counts: Counts, turns: &[u8], tiles: &mut [u8]) -> Counts
+    requires { Lends canvas.old counts turns.now tiles.old }
     ensures { Moved model-undo canvas.old counts turns.now tiles.old canvas.new result turns.now tiles.new }
 {
     if counts.done == 0 {
-        return stay(counts);
+        return counts;
     }
     let done = counts.done - 1;
-    *canvas = remake(canvas.wide, canvas.high, turns, done, tiles, work);
-    Step {
-        counts: Counts {
-            done,
-            undone: counts.undone + 1,
-        },
-        rebuilt: area(canvas.wide, canvas.high) as u64,
+    *canvas = remake(canvas.wide, canvas.high, turns, done, tiles);
+    Counts {
+        done,
+        undone: counts.undone + 1,
     }
 }
 
 // Does again the last edit that was undone, if there is one.
-pub fn redo(
-    canvas: &mut Canvas,
-    counts: Counts,
-    turns: &[u8],
-    tiles: &mut [u8],
-    work: &mut [u32],
-) -> Step
-    requires { Lends canvas.old counts turns.now tiles.old work.old }
+pub fn redo(canvas: &mut Canvas, counts: Counts, turns: &[u8], tiles: &mut [u8]) -> Counts
+    requires { Lends canvas.old counts turns.now tiles.old }
     ensures { Moved model-redo canvas.old counts turns.now tiles.old canvas.new result turns.now tiles.new }
 {
     if counts.undone == 0 {
-        return stay(counts);
+        return counts;
     }
     let done = counts.done + 1;
-    *canvas = remake(canvas.wide, canvas.high, turns, done, tiles, work);
-    Step {
-        counts: Counts {
-            done,
-            undone: counts.undone - 1,
-        },
-        rebuilt: area(canvas.wide, canvas.high) as u64,
+    *canvas = remake(canvas.wide, canvas.high, turns, done, tiles);
+    Counts {
+        done,
+        undone: counts.undone - 1,
     }
 }
 
@@ -90,21 +56,17 @@ pub fn do_edit(
     counts: Counts,
     turns: &mut [u8],
     tiles: &mut [u8],
-    work: &mut [u32],
     bytes: &[u8],
-) -> Step
-    requires { (Lends canvas.old counts turns.old tiles.old work.old) × (((e : Model) × EditBytes bytes.now e)) }
+) -> Counts
+    requires { (Lends canvas.old counts turns.old tiles.old) × (((e : Model) × EditBytes bytes.now e)) }
     ensures { (e : Model) → EditBytes bytes.now e → Moved (does e) canvas.old counts turns.old tiles.old canvas.new result turns.new tiles.new }
 {
     put_slot(turns, counts.done, bytes);
     let (edit, _) = edit_at(turns, 8192 * counts.done);
-    let touched = apply(canvas, tiles, work, edit, turns);
-    let rebuilt = rebuild(canvas, tiles, touched);
-    Step {
-        counts: Counts {
-            done: counts.done + 1,
-            undone: 0,
-        },
-        rebuilt,
+    apply(canvas, tiles, edit, turns);
+    rebuild_all(canvas, tiles);
+    Counts {
+        done: counts.done + 1,
+        undone: 0,
     }
 }

@@ -5,8 +5,7 @@ ghost use Rattle.codec.specs.Meaning.{edit_of};
 ghost use Rattle.canvas.specs.View.{Room};
 ghost use Rattle.history.specs.Slots.{slot_edit, latest_in, Replayed, Remade, SlotPut};
 
-use crate::applying::apply;
-use canvas::applying::is_known;
+use canvas::applying::{apply, is_known};
 use canvas::blanking::make_blank;
 use canvas::state::Canvas;
 use codec::edits::Edit;
@@ -15,39 +14,25 @@ use pixel::runs::{copy_bytes, no_bytes};
 use tiles::rebuilding::rebuild_all;
 
 // The page that the edits in the first `done` slots make of the blank one.
-fn replay(
-    wide: usize,
-    high: usize,
-    turns: &[u8],
-    done: usize,
-    tiles: &mut [u8],
-    work: &mut [u32],
-) -> Canvas
-    requires { (Room wide high tiles.old) × ((wide * high ≤ length work.old) × (8192 * done ≤ length turns.now)) }
+fn replay(wide: usize, high: usize, turns: &[u8], done: usize, tiles: &mut [u8]) -> Canvas
+    requires { (Room wide high tiles.old) × (8192 * done ≤ length turns.now) }
     ensures { Replayed wide high (latest_in turns.now done) tiles.old tiles.new result }
 {
     let mut canvas = make_blank(wide, high, tiles);
     for k in 0..done {
         let (edit, _) = edit_at(turns, 8192 * k);
-        let _ = apply(&mut canvas, tiles, work, edit, turns);
+        apply(&mut canvas, tiles, edit, turns);
     }
     canvas
 }
 
 // The same, and what is seen of it in the tiles, whatever they held.
-pub fn remake(
-    wide: usize,
-    high: usize,
-    turns: &[u8],
-    done: usize,
-    tiles: &mut [u8],
-    work: &mut [u32],
-) -> Canvas
-    requires { (Room wide high tiles.old) × ((wide * high ≤ length work.old) × (8192 * done ≤ length turns.now)) }
+pub fn remake(wide: usize, high: usize, turns: &[u8], done: usize, tiles: &mut [u8]) -> Canvas
+    requires { (Room wide high tiles.old) × (8192 * done ≤ length turns.now) }
     ensures { Remade wide high (latest_in turns.now done) tiles.old tiles.new result }
 {
-    let canvas = replay(wide, high, turns, done, tiles, work);
-    let _ = rebuild_all(&canvas, tiles);
+    let canvas = replay(wide, high, turns, done, tiles);
+    rebuild_all(&canvas, tiles);
     canvas
 }
 

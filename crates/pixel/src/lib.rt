@@ -1,4 +1,6 @@
 // Pixels: channel arithmetic, blend modes, pixels in lent bytes and the loops over them.
+#![tactic(auto)]
+
 pub mod areas;
 pub mod channels;
 pub mod modes;

@@ -1,4 +1,6 @@
 // The plain engine as a program: it takes turns from standard input, one to a line, and prints the page.
+#![tactic(auto)]
+
 ghost use Rattle.std.specs.Prelude.{◌≤◌, IfSome};
 
 use canvas::layout::area;

@@ -1,4 +1,6 @@
 // The plain engine: every edit in the plainest way, everything made anew from the blank page, no tiles.
+#![tactic(auto)]
+
 pub mod applying;
 pub mod engine;
 pub mod files;

@@ -2,14 +2,13 @@
 use Rattle.std.proofs.Common.{◌≡◌, ℕ, ◌+◌, ◌*◌, ◌/◌, ◌%◌, ◌<◌, ◌≤◌, ◌⊎◌, List, get_or, sym, refl, ap, ◌∙◌, subst₂, inl, inr, arith}
 use native.Mathlib.Nat.{div-add-mod}
 use Rattle.std.proofs.lemmas.Bool.{cases_eq, cases_lt}
-use Rattle.pixel.specs.Areas.{InArea}
 use Rattle.pixel.specs.Bytes.{Wrote}
 use Rattle.pixel.proofs.Steps.{pixel_kept}
 use Rattle.page.specs.Edits.{Page, seen}
 use Rattle.canvas.specs.declared.state.Canvas.{Canvas}
 use Rattle.canvas.specs.View.{view}
-use Rattle.pixel.specs.declared.areas.Area.{Area}
-use Rattle.tiles.specs.Places.{tile_of, begins, place, TileBuilt, BuiltWhere, Meets, InBand, Shown, OnlyIn}
+use Rattle.tiles.specs.declared.layout.Area.{Area}
+use Rattle.tiles.specs.Places.{tile_of, begins, place, TileBuilt, BuiltWhere, InArea, Meets, InBand, Shown, OnlyIn}
 use Rattle.tiles.proofs.Offsets.{ends, in_side, side_there, tile_ends, place_ends, place_out}
 use Rattle.tiles.proofs.Grids.{wrote_none, wrote_join, wrote_wider, pixel_within}
 use Rattle.tiles.proofs.Seeing.{SameAt, seen_same, planes_kept}

@@ -2,4 +2,3 @@ pub mod Offsets
 pub mod Grids
 pub mod Seeing
 pub mod Kept
-mod Summing

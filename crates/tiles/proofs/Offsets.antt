@@ -3,7 +3,7 @@ use Rattle.std.proofs.Common.{◌≡◌, ℕ, ◌+◌, ◌-◌, ◌*◌, ◌/◌
 use native.Mathlib.Nat.{min-le_left, min-le_right, div-add-mod}
 use Rattle.std.proofs.lemmas.Bool.{cases_order}
 use Rattle.tiles.specs.Places.{tile_of, begins, place}
-use Rattle.pixel.specs.declared.areas.Area.{Area}
+use Rattle.tiles.specs.declared.layout.Area.{Area}
 
 -- the end of a tile
 abbrev pub ends : ℕ → ℕ → Area → ℕ

@@ -8,7 +8,7 @@ use Rattle.page.specs.Layers.{layer_over}
 use Rattle.canvas.specs.declared.state.Layer.{Layer as Entry}
 use Rattle.canvas.specs.declared.state.Canvas.{Canvas}
 use Rattle.canvas.specs.View.{layer_of}
-use Rattle.pixel.specs.declared.areas.Area.{Area}
+use Rattle.tiles.specs.declared.layout.Area.{Area}
 use Rattle.tiles.specs.Grids.{GridTo}
 
 -- the tile is a part of the page, and lies behind the planes and within the bytes

@@ -1,4 +1,3 @@
 pub mod Grids
 pub mod Laying
 pub mod Places
-pub mod Sizes

@@ -9,8 +9,7 @@ use Rattle.pixel.specs.Bytes.{pixel_at, Wrote}
 use Rattle.page.specs.Edits.{Page, seen}
 use Rattle.canvas.specs.declared.state.Canvas.{Canvas}
 use Rattle.canvas.specs.View.{view, selection_at}
-use Rattle.pixel.specs.declared.areas.Area.{Area}
-use Rattle.pixel.specs.Areas.{InArea}
+use Rattle.tiles.specs.declared.layout.Area.{Area}
 use Rattle.tiles.specs.Grids.{GridTo}
 
 -- where what is seen begins, in a page of n pixels; it ends where the selection begins
@@ -20,10 +19,6 @@ seen_from n = 512 * n
 -- the part of the page that a tile shows, by its column and row of tiles
 abbrev pub tile_of : ℕ → ℕ → ℕ → ℕ → Area
 tile_of w h tx ty = record { left = 32 * tx; top = 32 * ty; wide = min (w - 32 * tx) 32; high = min (h - 32 * ty) 32 }
-
--- how many pixels it has
-abbrev pub tile_size : ℕ → ℕ → ℕ → ℕ → ℕ
-tile_size w h tx ty = (tile_of w h tx ty).wide * (tile_of w h tx ty).high
 
 -- where a tile begins: past the bands above it, and the tiles to its left
 abbrev pub begins : ℕ → ℕ → Area → ℕ
@@ -48,9 +43,16 @@ pub record BuiltWhere (D : ℕ → ℕ → Type 0) (s : Canvas) (xs ys : List �
   pub kept :
       (i j : ℕ) → i < s.wide → j < s.high → (D (i / 32) (j / 32) → ⊥) → pixel_at ys (place s.wide s.high i j) ≡ pixel_at xs (place s.wide s.high i j)
 
--- along one side: the k-th 32 columns (or rows) begin before the n from `first` on end, and end behind where they begin
+-- along one side: k is one of the n columns (or rows) from `first` on; the k-th 32 of them begin before those n end, and end behind where they begin
+abbrev pub Within : ℕ → ℕ → ℕ → Type 0
+Within first n k = (first ≤ k) × (k < first + n)
+
 abbrev pub Overlaps : ℕ → ℕ → ℕ → Type 0
 Overlaps first n k = (first < 32 * k + 32) × (32 * k < first + n)
+
+-- a pixel lies in a part of the page
+abbrev pub InArea : Area → ℕ → ℕ → Type 0
+InArea a i j = Within a.left a.wide i × Within a.top a.high j
 
 -- a tile, by its column and row of tiles, and a part of the page meet
 abbrev pub Meets : Area → ℕ → ℕ → Type 0

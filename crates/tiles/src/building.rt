@@ -7,8 +7,8 @@ ghost use Rattle.canvas.specs.View.{no_entry};
 ghost use Rattle.tiles.specs.Laying.{Ready, White, Over, Laid};
 ghost use Rattle.tiles.specs.Places.{SeenTo};
 
+use crate::layout::Area;
 use canvas::state::Canvas;
-use pixel::areas::Area;
 use pixel::modes::Mode;
 use pixel::pixels::{lay_pixel, read_pixel, write_pixel};
 

@@ -3,7 +3,15 @@ ghost use Rattle.std.specs.Prelude.{◌≡◌, ◌+◌, ◌*◌, ◌<◌, ◌≤
 ghost use Rattle.tiles.specs.Places.{tile_of, begins};
 
 use canvas::layout::area;
-use pixel::areas::Area;
+
+// A part of the page: a tile, or where something has changed.
+#[derive(Clone, Copy)]
+pub struct Area {
+    pub left: usize,
+    pub top: usize,
+    pub wide: usize,
+    pub high: usize,
+}
 
 // The part of a page that tile (tx, ty) shows; those at the right and lower edge may be smaller.
 pub(crate) fn tile_of(wide: usize, high: usize, tx: usize, ty: usize) -> Area

@@ -1,4 +1,6 @@
 // What is seen of a canvas, kept in tiles of 32 by 32 pixels in the lent memory, and rebuilt where something has changed.
+#![tactic(auto)]
+
 mod building;
 pub mod layout;
 pub mod rebuilding;

@@ -1,11 +1,10 @@
 // One tile, built in place.
-ghost use Rattle.std.specs.Prelude.{◌≡◌, ◌+◌, ◌*◌, ◌<◌, ◌≤◌, length};
-ghost use Rattle.tiles.specs.Places.{tile_of, tile_size, TileBuilt};
+ghost use Rattle.std.specs.Prelude.{◌+◌, ◌*◌, ◌<◌, ◌≤◌, length};
+ghost use Rattle.tiles.specs.Places.{tile_of, TileBuilt};
 
 use crate::building::{lay_layers, whiten};
-use crate::layout::{tile_at, tile_of};
+use crate::layout::{Area, tile_at, tile_of};
 use canvas::state::Canvas;
-use pixel::areas::Area;
 
 // White, and then the layers on it.
 fn build(canvas: &Canvas, tiles: &mut [u8], tile: Area)
@@ -17,14 +16,10 @@ fn build(canvas: &Canvas, tiles: &mut [u8], tile: Area)
     lay_layers(canvas, tiles, tile, at);
 }
 
-// Tile (tx, ty): what is seen of that part of the page. Every other byte stays. It says how many pixels that were.
-pub fn build_tile(canvas: &Canvas, tiles: &mut [u8], tx: usize, ty: usize) -> u64
+// Tile (tx, ty): what is seen of that part of the page. Every other byte stays.
+pub fn build_tile(canvas: &Canvas, tiles: &mut [u8], tx: usize, ty: usize)
     requires { (544 * (canvas.now.wide * canvas.now.high) ≤ length tiles.old) × ((32 * tx < canvas.now.wide) × (32 * ty < canvas.now.high)) }
-    ensures built { TileBuilt canvas.now (tile_of canvas.now.wide canvas.now.high tx ty) tiles.old tiles.new }
-    ensures size { result ≡ tile_size canvas.now.wide canvas.now.high tx ty }
-    ensures most { result ≤ 1024 }
+    ensures { TileBuilt canvas.now (tile_of canvas.now.wide canvas.now.high tx ty) tiles.old tiles.new }
 {
-    let tile = tile_of(canvas.wide, canvas.high, tx, ty);
-    build(canvas, tiles, tile);
-    (tile.wide * tile.high) as u64
+    build(canvas, tiles, tile_of(canvas.wide, canvas.high, tx, ty));
 }

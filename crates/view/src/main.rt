@@ -1,4 +1,6 @@
 // Shows a page file: what is seen as text or as a PPM, or its edits in words.
+#![tactic(auto)]
+
 ghost use Rattle.std.specs.Prelude.{◌≤◌, IfSome};
 
 use reference::shown::lent_for;

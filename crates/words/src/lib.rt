@@ -1,4 +1,6 @@
 // Turns as words that a person reads and types on a line, both ways; scripts of them, pages printed, and what else programs share.
+#![tactic(auto)]
+
 pub mod call;
 pub mod digits;
 mod forms;

@@ -18,6 +18,6 @@ returns c =
     record {
       wide_is = made.wide_is;
       high_is = made.high_is;
-      holds = all_hold s es _ _ (subst₂ (λ w h. Agree (view s c.replay-canvas.new.tiles) (made_by w h es)) (sym made.wide_is) (sym made.high_is) made.agrees) c.rebuild-all.ensures.built;
-      long = c.rebuild-all.ensures.built.wrote.long ∙ made.long;
+      holds = all_hold s es _ _ (subst₂ (λ w h. Agree (view s c.replay-canvas.new.tiles) (made_by w h es)) (sym made.wide_is) (sym made.high_is) made.agrees) c.rebuild-all.ensures;
+      long = c.rebuild-all.ensures.wrote.long ∙ made.long;
     }

@@ -16,7 +16,7 @@ loop-k-init c =
 pub apply-requires : goal.apply-requires
 apply-requires c =
     let area : c.loop-k.canvas.wide * c.loop-k.canvas.high ≡ c.args.wide * c.args.high = ap₂ ◌*◌ c.loop-k.invariant.0 c.loop-k.invariant.1 in
-    record { room = (omega (arith, area, c.requires.0.enough, c.make-blank-canvas.ensures.long, c.loop-k.auto.tiles), omega (arith, area, c.requires.1.0, c.loop-k.auto.work)); good = c.edit-at-edit.ensures.good }
+    omega (arith, area, c.requires.0.enough, c.make-blank-canvas.ensures.long, c.loop-k.auto.tiles)
 
 pub loop-k-preserved : goal.loop-k-preserved
 loop-k-preserved c =

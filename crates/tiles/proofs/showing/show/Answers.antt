@@ -1,6 +1,6 @@
 -- The pixel lies in its tile, and so within the bytes.
 use Rattle.std.proofs.Common.{◌+◌, ◌*◌, ◌%◌, ap, arith}
-use Rattle.pixel.specs.declared.areas.Area.{Area}
+use Rattle.tiles.specs.declared.layout.Area.{Area}
 use Rattle.tiles.specs.Places.{begins}
 use Rattle.tiles.proofs.Offsets.{place_ends}
 use Rattle.tiles.proofs.showing.show.Goals as goal

@@ -22,5 +22,5 @@ returns-in-default c = not_merged c.args.self.now c.args.tiles.now c.in-default.
 
 pub returns : goal.returns
 returns c =
-    merged_down c.args.self.now _ c.everywhere.result _ _ c.in-Some.below c.area-n.result c.plane-of-at.result c.plane-of-from.result c.everywhere.ensures c.in-Some.ensures
-    c.area-n.ensures.is c.plane-of-at.ensures.is c.plane-of-from.ensures.is c.take-out.ensures c.merge-pixels.ensures
+    merged_down c.args.self.now _ _ _ c.in-Some.below c.area-n.result c.plane-of-at.result c.plane-of-from.result c.in-Some.ensures c.area-n.ensures.is c.plane-of-at.ensures.is
+    c.plane-of-from.ensures.is c.take-out.ensures c.merge-pixels.ensures

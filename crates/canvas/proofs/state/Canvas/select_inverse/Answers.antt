@@ -1,8 +1,11 @@
-use Rattle.std.proofs.Common.{refl}
-use Rattle.canvas.proofs.Choosing.{inverted}
+use Rattle.std.proofs.Common.{◌+◌, ◌-◌, ◌*◌, get_or, refl, ap, arith}
+use Rattle.page.specs.Edits.{select_inverse}
+use Rattle.canvas.proofs.Views.{bytes_reselected}
 use Rattle.canvas.proofs.state.Canvas.select_inverse.Goals as goal
 
 pub returns : goal.returns
 returns c =
-    let so = inverted c.args.self.now c.everywhere-all.result c.area-n.result _ _ c.everywhere-all.ensures c.area-n.ensures.is c.invert-rows.ensures in
-    record { agrees = so.0; rebound = record { same_wide = refl; same_high = refl; same_layers = refl; same_count = refl; same_active = refl }; wrote = so.1 }
+    let s = c.args.self.now in
+    let xs = c.args.tiles.now in
+    bytes_reselected s select_inverse c.area-n.result _ _ _ (λ i j. 255 - get_or xs (516 * (s.wide * s.high) + (j * s.wide + i)) 0) refl c.area-n.ensures.is c.invert-bytes.ensures
+    (λ i j iw jh. ap (λ n. 255 - get_or xs (516 * n + (j * s.wide + i)) 0) c.area-n.ensures.is)

@@ -6,4 +6,4 @@ pub invariant-of-self : goal.invariant-of-self
 invariant-of-self c =
     let s = c.args.self.now in
     let own = own_raised s.active _ s.layers _ (omega arith) (omega arith) s.full c.raise-entry.ensures (s.planes, s.distinct) in
-    (s.sized, (c.raise-entry.ensures.long ∙ s.full, ((omega arith, omega arith), (own.0, (own.1, (s.bounded, tt))))))
+    (s.sized, (c.raise-entry.ensures.long ∙ s.full, ((omega arith, omega arith), (own.0, (own.1, tt)))))

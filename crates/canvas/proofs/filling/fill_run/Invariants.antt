@@ -1,6 +1,0 @@
-use Rattle.std.proofs.Common.{◌+◌, ◌*◌, cond, ltb, get_or}
-use Rattle.pixel.specs.Bytes.{pixel_at, PixelsTo}
-use Rattle.canvas.proofs.filling.fill_run.Given as goal
-
-abbrev pub invariant-loop-k : goal.invariant-loop-k
-invariant-loop-k l = PixelsTo (λ k. cond (ltb 0 (get_or l.initial.tiles (l.mask + k) 0)) l.p (pixel_at l.initial.tiles (l.at + 4 * k))) l.at l.k l.initial.tiles l.tiles
