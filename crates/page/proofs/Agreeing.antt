@@ -1,14 +1,12 @@
 -- Agreement of pages is an equivalence, edits keep it, and where pages agree the same is seen. Assumes nothing.
-use Rattle.std.proofs.Common.{◌≡◌, ℕ, zero, suc, ◌+◌, ◌-◌, ◌*◌, ◌<◌, ◌≤◌, Bool, true, false, cond, ◌&&◌, ◌||◌, eqb, ltb, leb, List, [], ◌∷◌, length, get_or, set, sym, refl, ap, ◌∙◌, subst, ap₂, subst₂, true≢false, arith}
+use Rattle.std.proofs.Common.{◌≡◌, ℕ, suc, ◌-◌, ◌*◌, ◌<◌, Bool, true, false, cond, ◌&&◌, ltb, List, [], ◌∷◌, length, set, sym, refl, ap, ◌∙◌, subst₂, true≢false, arith}
 use mathlib.Core.Path.{subst₃}
 use mathlib.Core.Bool.{false≢true}
 use Rattle.std.proofs.lemmas.Bool.{ltb-true, and_parts}
 use Rattle.std.proofs.lemmas.List.Elements.{length_all_zip}
-use Rattle.pixel.specs.declared.Pixel.{Pixel}
-use Rattle.page.specs.Layers.{Picture, Layer, clear_layer, painted, composite, put_in, without}
-use Rattle.page.specs.Selection.{reached, under_stroke, mask_of}
-use Rattle.page.specs.Filters.{filtered}
-use Rattle.page.specs.Edits.{Page, Edit, edited, after, seen, layer, active_layer, with_layers, with_layer, with_selected, on_active, pasted, merged_layer, add_layer, drop_layer, choose_layer, raise_layer, set_mode, set_opacity, set_visible, merge_down, select_all, select_rect, select_similar, select_inverse, fill, stroke, apply_filter, copy, paste}
+use Rattle.page.specs.Layers.{Picture, Layer, clear_layer, painted, put_in, without}
+use Rattle.page.specs.Selection.{under_stroke, mask_of}
+use Rattle.page.specs.Edits.{Page, Edit, edited, after, seen, layer, active_layer, with_layers, with_layer, with_selected, on_active, merged_layer, add_layer, drop_layer, choose_layer, raise_layer, set_mode, set_opacity, set_visible, merge_down, select_all, select_rect, select_similar, select_inverse, fill, stroke, apply_filter, copy, paste}
 use Rattle.page.specs.Agree.{Same, LayerAgree, LayersAgree, Agree, Agreement}
 use Rattle.page.proofs.Same.{filtered_same, reached_same, composite_same, layer_at, set_agree, put_in_agree, without_agree}
 use Rattle.pixel.specs.Pixels.{pixel_lerp, white}

@@ -1,6 +1,6 @@
 -- Filters keep channels below 256. Assumes nothing.
-use Rattle.std.proofs.Common.{◌≡◌, ℕ, zero, suc, ◌+◌, ◌-◌, ◌*◌, ◌/◌, ◌<◌, ◌≤◌, Bool, true, false, cond, eqb, ltb, leb, List, [], ◌∷◌, get_or, refl, subst, le_trans, mul-le-mul_right, div-lt_iff_lt-mul, mul-le-mul_left, div-le_self, arith}
-use Rattle.std.proofs.lemmas.Bool.{cases_lt, cond_both}
+use Rattle.std.proofs.Common.{ℕ, zero, suc, ◌*◌, ◌/◌, ◌<◌, ◌≤◌, eqb, le_trans, div-lt_iff_lt-mul, div-le_self, arith}
+use Rattle.std.proofs.lemmas.Bool.{cond_both}
 use Rattle.pixel.specs.declared.Pixel.{Pixel}
 use Rattle.page.specs.Layers.{Picture}
 use Rattle.page.specs.Filters.{Filter, invert, curve, box_blur, edges, filtered, mean, change, row_sum, square_sum, window_start, window_size}

@@ -1,14 +1,12 @@
 -- All parts of colours stay below 256, in every layer, in the clipboard and in what is seen, whatever edits that fit come to pass. Assumes nothing.
-use Rattle.std.proofs.Common.{◌≡◌, ℕ, zero, suc, ◌+◌, ◌-◌, ◌*◌, ◌<◌, ◌≤◌, Bool, true, false, cond, ◌&&◌, eqb, ltb, leb, List, [], ◌∷◌, ◌++◌, length, get_or, set, refl, ap, arith}
+use Rattle.std.proofs.Common.{◌≡◌, ℕ, zero, suc, ◌-◌, ◌*◌, ◌≤◌, Bool, true, false, cond, ◌&&◌, eqb, ltb, leb, List, [], ◌∷◌, get_or, arith}
 use Rattle.std.specs.List.{AllByRecursion as All}
 use Rattle.std.proofs.lemmas.Bool.{ltb-true, cond_both}
 use Rattle.std.proofs.ByRecursion.{All-set}
-use Rattle.pixel.specs.declared.Pixel.{Pixel}
-use Rattle.page.specs.Layers.{Picture, Layer, clear_layer, painted, layer_over, composite, put_in, without}
+use Rattle.page.specs.Layers.{Picture, Layer, clear_layer, layer_over, composite, put_in, without}
 use Rattle.page.specs.Selection.{reached, under_stroke, mask_of}
-use Rattle.page.specs.Filters.{filtered}
-use Rattle.page.specs.Edits.{Page, Edit, edited, blank, after, seen, layer, active_layer, with_layers, with_layer, with_selected, on_active, pasted, merged_layer, add_layer, drop_layer, choose_layer, raise_layer, set_mode, set_opacity, set_visible, merge_down, select_all, select_rect, select_similar, select_inverse, fill, stroke, apply_filter, copy, paste}
-use Rattle.page.specs.History.{Turn, History, does, undo, redo, empty, turned, turns, undone_once, redone_once, in_order, page}
+use Rattle.page.specs.Edits.{Page, Edit, edited, blank, after, layer, active_layer, with_layers, with_layer, with_selected, on_active, pasted, merged_layer, add_layer, drop_layer, choose_layer, raise_layer, set_mode, set_opacity, set_visible, merge_down, select_all, select_rect, select_similar, select_inverse, fill, stroke, apply_filter, copy, paste}
+use Rattle.page.specs.History.{Turn, History, does, undo, redo, empty, turns, undone_once, redone_once, in_order, page}
 use Rattle.page.specs.Fits.{Fits, AllFit}
 use Rattle.page.specs.Laws.{Colours}
 use Rattle.pixel.proofs.Bounds.{clear_fits, white_fits, cond_fits, pixel_over_fits, pixel_lerp_fits, merged_fits}

@@ -1,6 +1,6 @@
 -- A flood of as many steps as there are pixels takes the pixels to which similar ones lead, and no others. What is reached only grows, and there is room
 -- for w * h pixels: within so many steps it has stopped growing, and what has stopped once stays as it is. Assumes nothing.
-use Rattle.std.proofs.Common.{◌≡◌, ℕ, zero, suc, ◌+◌, ◌*◌, ◌<◌, ◌≤◌, Bool, true, false, cond, ◌&&◌, ◌||◌, eqb, ltb, leb, ◌⊎◌, sym, refl, ap, ◌∙◌, subst, ap₂, inl, inr, true≢false, arith}
+use Rattle.std.proofs.Common.{◌≡◌, ℕ, zero, suc, ◌+◌, ◌*◌, ◌<◌, ◌≤◌, Bool, true, false, cond, ◌&&◌, eqb, ltb, ◌⊎◌, sym, refl, ap, subst, inl, inr, arith}
 use mathlib.Core.Path.{fun_ext}
 use mathlib.Core.Bool.{false≢true}
 use Rattle.std.proofs.lemmas.Bool.{ltb-true, lt-ltb, le-leb, eqb-true, eq-eqb, cases_lt, and_parts, and_from, or_cases, or_left, or_right}
@@ -9,9 +9,9 @@ use Rattle.page.specs.Layers.{Picture}
 use Rattle.page.specs.Selection.{left_of, above, beside, spread, reached, mask_of}
 use Rattle.page.specs.Filters.{row_sum, square_sum}
 use Rattle.page.specs.Flood.{Leads, here, right, left, down, up, EnoughSteps, SimilarSelected}
-use Rattle.page.specs.Edits.{Page, active_layer}
+use Rattle.page.specs.Edits.{active_layer}
 use Rattle.page.proofs.Bounds.{row_sum_most}
-use Rattle.pixel.specs.Channels.{apart, near}
+use Rattle.pixel.specs.Channels.{near}
 use Rattle.pixel.specs.Pixels.{similar}
 
 -- sums over a square: of what is nowhere more, and of what is nowhere more and comes to as much

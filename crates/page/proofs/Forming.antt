@@ -1,8 +1,8 @@
 -- The blank page is well formed, and edits keep a page so. Assumes nothing.
-use Rattle.std.proofs.Common.{◌≡◌, ℕ, zero, suc, ◌+◌, ◌-◌, ◌*◌, ◌<◌, ◌≤◌, Bool, true, false, ◌&&◌, eqb, ltb, leb, List, [], ◌∷◌, length, set, refl, ap, arith, length-set}
+use Rattle.std.proofs.Common.{◌≡◌, ℕ, zero, suc, ◌-◌, ◌<◌, ◌≤◌, ◌&&◌, ltb, List, [], ◌∷◌, length, refl, ap, arith, length-set}
 use Rattle.std.proofs.lemmas.Bool.{ltb-true, cond_both}
 use Rattle.page.specs.Layers.{Layer, clear_layer, put_in, without}
-use Rattle.page.specs.Edits.{Page, Edit, edited, after, blank, active_layer, with_layers, with_layer, on_active, merged_layer, add_layer, drop_layer, choose_layer, raise_layer, set_mode, set_opacity, set_visible, merge_down, select_all, select_rect, select_similar, select_inverse, fill, stroke, apply_filter, copy, paste}
+use Rattle.page.specs.Edits.{Page, Edit, edited, after, active_layer, with_layers, with_layer, merged_layer, add_layer, drop_layer, choose_layer, raise_layer, set_mode, set_opacity, set_visible, merge_down, select_all, select_rect, select_similar, select_inverse, fill, stroke, apply_filter, copy, paste}
 use Rattle.page.specs.Agree.{Formed, WellFormed}
 
 length-put_in : (k : ℕ) (l : Layer) (ls : List Layer) → length (put_in k l ls) ≡ suc (length ls)

@@ -1,9 +1,8 @@
 -- Outside what is selected an edit of pixels changes nothing: each paints by `pixel-lerp`, and that by 0 is the old pixel. Assumes nothing.
-use Rattle.std.proofs.Common.{◌≡◌, ℕ, zero, suc, ◌+◌, ◌-◌, ◌*◌, ◌/◌, List, [], ◌∷◌, get_or, set, refl, ap, ◌∙◌, arith}
+use Rattle.std.proofs.Common.{◌≡◌, ℕ, zero, suc, List, [], ◌∷◌, get_or, set, refl, ap, ◌∙◌, arith}
 use Rattle.pixel.specs.declared.Pixel.{Pixel}
 use Rattle.page.specs.Layers.{Picture, Layer, clear_layer, painted}
-use Rattle.page.specs.Filters.{filtered}
-use Rattle.page.specs.Edits.{Page, layer, active_layer, on_active, pasted}
+use Rattle.page.specs.Edits.{Page, layer, active_layer, on_active}
 use Rattle.page.specs.Laws.{OnlySelected}
 use Rattle.pixel.specs.Channels.{lerp}
 use Rattle.pixel.specs.Pixels.{pixel_lerp}

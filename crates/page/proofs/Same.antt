@@ -1,11 +1,10 @@
 -- Pictures that are the same on a page stay so under filters, floods and layers one on the other. Assumes nothing.
-use Rattle.std.proofs.Common.{◌≡◌, ℕ, zero, suc, ◌+◌, ◌-◌, ◌*◌, ◌/◌, ◌<◌, ◌≤◌, min, Bool, true, false, ◌&&◌, ◌||◌, eqb, ltb, leb, List, [], ◌∷◌, length, get_or, set, refl, ap, ◌∙◌, ap₂, arith}
+use Rattle.std.proofs.Common.{◌≡◌, ℕ, zero, suc, ◌+◌, ◌-◌, ◌*◌, ◌/◌, ◌<◌, ◌≤◌, min, Bool, true, false, ◌&&◌, ltb, List, [], ◌∷◌, length, get_or, set, refl, ap, ◌∙◌, ap₂, arith}
 use mathlib.Core.Path.{fun_ext}
 use Rattle.std.proofs.lemmas.Bool.{ltb-true, and_parts}
-use Rattle.pixel.specs.declared.Pixel.{Pixel}
 use Rattle.page.specs.Layers.{Picture, Layer, clear_layer, layer_over, composite, put_in, without}
 use Rattle.page.specs.Selection.{beside, spread, reached}
-use Rattle.page.specs.Filters.{Filter, invert, curve, box_blur, edges, filtered, mean, change, row_sum, square_sum, window_start, window_size}
+use Rattle.page.specs.Filters.{Filter, invert, curve, box_blur, edges, filtered, mean, change, row_sum, window_start, window_size}
 use Rattle.page.specs.Agree.{Same, LayerAgree, LayersAgree}
 use Rattle.pixel.specs.Pixels.{channel_of, similar}
 

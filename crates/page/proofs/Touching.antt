@@ -1,12 +1,11 @@
 -- What an edit does not touch is seen as before. Assumes nothing.
 use Rattle.std.proofs.Common.{◌≡◌, ℕ, zero, suc, ◌<◌, Bool, true, false, cond, not, ◌&&◌, eqb, ltb, ◌⊎◌, List, [], ◌∷◌, length, get_or, set, sym, refl, ap, ◌∙◌, inl, inr, get_or-set_same}
-use Rattle.std.proofs.lemmas.Bool.{cases_eq, cases_Bool, cond-true, cond-false, and_cases, and_from, not-false, eqb-true, not_from_false, false≢true}
+use Rattle.std.proofs.lemmas.Bool.{cases_eq, cases_Bool, cond-false, eqb-true, not_from_false}
 use Rattle.pixel.specs.declared.Pixel.{Pixel}
 use Rattle.pixel.proofs.Steps.{same_pixel}
 use Rattle.page.specs.Layers.{Picture, Layer, clear_layer, painted, layer_over, composite}
-use Rattle.page.specs.Edits.{Page, Edit, edited, seen, active_layer, with_layer, on_active, add_layer, drop_layer, choose_layer, raise_layer, set_mode, set_opacity, set_visible, merge_down, select_all, select_rect, select_similar, select_inverse, fill, stroke, apply_filter, copy, paste}
-use Rattle.page.specs.Agree.{Formed}
-use Rattle.page.specs.Touched.{Touched, UntouchedSeen}
+use Rattle.page.specs.Edits.{Page, seen, active_layer, with_layer, add_layer, drop_layer, choose_layer, raise_layer, set_mode, set_opacity, set_visible, merge_down, select_all, select_rect, select_similar, select_inverse, fill, stroke, apply_filter, copy, paste}
+use Rattle.page.specs.Touched.{UntouchedSeen}
 
 -- two pixels are the same or not
 pub pixel_or_not : (p q : Pixel) → (p ≡ q) ⊎ (p ≡ q → ⊥)

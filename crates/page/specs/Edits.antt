@@ -1,5 +1,5 @@
 -- What a page is, what each edit makes of it, and what is seen of it, pixel by pixel. No tiles, sums, snapshots or deltas: this is the meaning that the editor is held to. Assumes nothing.
-use Rattle.std.specs.Prelude.{ℕ, suc, ◌+◌, ◌-◌, ◌*◌, Bool, true, cond, ◌&&◌, List, [], ◌∷◌, length, ◌==◌, nat_le, nat_lt, slice_index_or, slice_set}
+use Rattle.std.specs.Prelude.{ℕ, suc, ◌+◌, ◌-◌, ◌*◌, Bool, cond, ◌&&◌, List, [], ◌∷◌, length, ◌==◌, nat_le, nat_lt, slice_index_or, slice_set}
 use Rattle.pixel.specs.declared.Pixel.{Pixel}
 use Rattle.page.specs.Layers.{Picture, Layer, clear_layer, painted, composite, put_in, without}
 use Rattle.page.specs.Selection.{reached, under_stroke, mask_of}

@@ -1,6 +1,5 @@
 -- Filters of a picture of w by h. Assumes nothing.
 use Rattle.std.specs.Prelude.{ℕ, zero, suc, ◌+◌, ◌-◌, ◌*◌, ◌/◌, min, cond, List, ◌==◌, slice_index}
-use Rattle.pixel.specs.declared.Pixel.{Pixel}
 use Rattle.page.specs.Layers.{Picture}
 use Rattle.pixel.specs.Channels.{apart, at_most_255}
 use Rattle.pixel.specs.Pixels.{by_channels, channel_of}

@@ -1,6 +1,5 @@
 -- Which edits bytes can carry, and their kinds. Assumes nothing.
 use Rattle.std.specs.Prelude.{◌≡◌, ℕ, ◌<◌, ◌≤◌, Bool, true, List, [], ◌∷◌, length, slice_index, slice_index_or}
-use Rattle.pixel.specs.declared.Pixel.{Pixel}
 use Rattle.page.specs.Filters.{Filter, invert, curve, box_blur, edges}
 use Rattle.page.specs.Edits.{Edit, add_layer, drop_layer, choose_layer, raise_layer, set_mode, set_opacity, set_visible, merge_down, select_all, select_rect, select_similar, select_inverse, fill, stroke, apply_filter, copy, paste}
 use Rattle.page.specs.History.{Turn, does, undo, redo}

@@ -1,6 +1,5 @@
 -- Which pixels an edit touches, so that what is seen of others stays. Assumes nothing.
-use Rattle.std.specs.Prelude.{◌≡◌, ℕ, suc, ◌<◌, Bool, true, false, cond, not, ◌&&◌, length, ◌==◌, nat_lt}
-use Rattle.page.specs.Layers.{Layer}
+use Rattle.std.specs.Prelude.{◌≡◌, ℕ, suc, ◌<◌, Bool, true, cond, not, ◌&&◌, length, ◌==◌, nat_lt}
 use Rattle.page.specs.Edits.{Page, Edit, edited, seen, active_layer, add_layer, drop_layer, choose_layer, raise_layer, set_mode, set_opacity, set_visible, merge_down, select_all, select_rect, select_similar, select_inverse, fill, stroke, apply_filter, copy, paste}
 use Rattle.page.specs.Agree.{Formed}
 

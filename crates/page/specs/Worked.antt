@@ -1,7 +1,7 @@
 -- Four pages worked out by hand: what is seen at every pixel, row by row, as numbers of red, green and blue. Assumes nothing.
 use Rattle.std.specs.Prelude.{◌≡◌, ℕ, zero, suc, ◌+◌, ◌*◌, List, [], ◌∷◌}
 use Rattle.pixel.specs.declared.Pixel.{Pixel}
-use Rattle.page.specs.Edits.{Page, Edit, seen, blank, after, add_layer, set_mode, select_rect, fill, stroke}
+use Rattle.page.specs.Edits.{Page, seen, blank, after, add_layer, set_mode, select_rect, fill, stroke}
 
 abbrev pub colour : Pixel → ℕ
 colour d = (d.red * 256 + d.green) * 256 + d.blue

@@ -3,7 +3,7 @@ use Rattle.std.proofs.Common.{◌≡◌, ℕ, ◌+◌, ◌-◌, ◌*◌, ◌/◌
 use Rattle.std.proofs.lemmas.Bool.{cond_both}
 use Rattle.pixel.specs.declared.Pixel.{Pixel}
 use Rattle.pixel.specs.Channels.{Channel, at_most_255, share, blended, lerp, mixed, merged_channel}
-use Rattle.pixel.specs.Pixels.{PixelFits, clear, white, pixel_over, pixel_lerp, merged_by, merged, channel_of}
+use Rattle.pixel.specs.Pixels.{PixelFits, clear, white, pixel_over, pixel_lerp, merged_by, merged}
 
 pub clear_fits : PixelFits clear
 clear_fits = omega arith

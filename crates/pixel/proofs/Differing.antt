@@ -1,11 +1,11 @@
 -- The smallest part around the pixels in which two pictures differ. Assumes nothing.
-use Rattle.std.proofs.Common.{◌≡◌, ℕ, ◌+◌, ◌-◌, ◌*◌, ◌<◌, ◌≤◌, min, max, true, false, cond, eqb, ◌⊎◌, List, get_or, sym, refl, ap, ◌∙◌, subst, ap₂, inl, inr, arith}
+use Rattle.std.proofs.Common.{◌≡◌, ℕ, ◌+◌, ◌-◌, ◌*◌, ◌<◌, ◌≤◌, min, max, true, false, eqb, ◌⊎◌, List, sym, refl, ap, ◌∙◌, subst, inl, inr, arith}
 use Rattle.std.proofs.lemmas.Bool.{cases_eq, cases_lt, cases_Bool, cond-true, cond-false, and_parts, and_cases, eqb-true, eqb-false, eq-eqb, ne_eqb}
 use Rattle.pixel.specs.declared.Pixel.{Pixel}
 use Rattle.pixel.specs.declared.areas.Area.{Area}
-use Rattle.pixel.specs.Areas.{Within, InArea, AreaIn, nowhere, whole, first_rows, Touches, Around, join}
+use Rattle.pixel.specs.Areas.{Within, AreaIn, nowhere, whole, first_rows, Touches, Around, join}
 use Rattle.pixel.specs.Bytes.{pixel_at}
-use Rattle.pixel.specs.Pictures.{picture_in, same_at, Differs, FirstUnlike, LastUnlike, Unlike, RowDiffers}
+use Rattle.pixel.specs.Pictures.{same_at, Differs, FirstUnlike, LastUnlike, Unlike, RowDiffers}
 use Rattle.pixel.proofs.Steps.{same_pixel}
 
 -- what the test of two pixels tells

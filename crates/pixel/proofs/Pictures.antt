@@ -1,11 +1,9 @@
 -- Pictures written row by row, and parts of them. Assumes nothing.
-use Rattle.std.proofs.Common.{◌≡◌, ℕ, ◌+◌, ◌-◌, ◌*◌, ◌<◌, ◌≤◌, Bool, true, false, cond, ◌&&◌, ltb, leb, ◌⊎◌, List, length, get_or, sym, refl, ap, ◌∙◌, subst, ap₂, inl, inr, mul-le-mul_right, arith}
-use Rattle.std.proofs.lemmas.Nat.{mul-add-lt}
+use Rattle.std.proofs.Common.{◌≡◌, ℕ, ◌+◌, ◌-◌, ◌*◌, ◌<◌, ◌≤◌, true, false, ◌⊎◌, List, sym, refl, ap, ◌∙◌, ap₂, inl, inr, mul-le-mul_right, arith}
 use Rattle.std.proofs.lemmas.Bool.{cases_eq, cases_order, cases_lt, cases_Bool, cond-true, cond-false, and_parts, leb-true, ltb-true, le-leb, lt-ltb, and_from, true≢false}
-use Rattle.std.proofs.lemmas.Bool.Decides.{nat_tests}
 use Rattle.pixel.specs.declared.Pixel.{Pixel}
 use Rattle.pixel.specs.declared.areas.Area.{Area}
-use Rattle.pixel.specs.Areas.{Within, is_within, InArea, inside, AreaIn, first_rows}
+use Rattle.pixel.specs.Areas.{Within, is_within, InArea, inside, first_rows}
 use Rattle.pixel.specs.Bytes.{pixel_at, PixelsTo, Wrote}
 use Rattle.pixel.specs.Pictures.{picture_in, PictureTo, RegionTo}
 use Rattle.pixel.proofs.Steps.{pixel_kept, pixels_wrote}

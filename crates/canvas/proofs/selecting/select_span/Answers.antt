@@ -34,4 +34,4 @@ spanned at wide first last xs ys zs f l so to =
     }
 
 pub returns : goal.returns
-returns c = spanned c.args.at c.args.wide c.args.span.first c.args.span.last _ _ _ (omega arith) (omega arith) c.set-bytes.ensures c.set-bytes-2.ensures
+returns c = spanned c.args.at c.args.wide c.args.span.first c.args.span.last _ _ _ (omega arith) (omega arith) c.set_bytes.ensures c.set_bytes-2.ensures

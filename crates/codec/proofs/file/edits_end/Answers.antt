@@ -8,12 +8,12 @@ use Rattle.codec.proofs.file.edits_end.Goals as goal
 pub loop-i-preserved : goal.loop-i-preserved
 loop-i-preserved c =
     sym (edits_step c.args.bytes.now c.args.turns c.args.before c.loop-i.i c.args.count c.loop-i.at _ _
-    c.loop-i-test.true c.against-edit-against.ensures c.in-ok-at.ensures) ∙ c.loop-i.invariant
+    c.loop-i-test.true c.against_edit-against.ensures c.in_ok-at.ensures) ∙ c.loop-i.invariant
 
-pub returns-in-err-at : goal.returns-in-err-at
-returns-in-err-at c =
+pub returns-in_err-at : goal.returns-in_err-at
+returns-in_err-at c =
     let p = err_from_is_err_and c.from-residual.result c.from-residual.ensures.1 in
     let made : Refusal → End = λ x. Err x in
     p.1 ∙ (ap made p.2
-    ∙ (sym (edits_step c.args.bytes.now c.args.turns c.args.before c.loop-i.i c.args.count c.loop-i.at (made c.in-err-at.field-0.0) c.against-edit-against.result
-    c.loop-i-test.true c.against-edit-against.ensures c.in-err-at.ensures) ∙ c.loop-i.invariant))
+    ∙ (sym (edits_step c.args.bytes.now c.args.turns c.args.before c.loop-i.i c.args.count c.loop-i.at (made c.in_err-at.field-0.0) c.against_edit-against.result
+    c.loop-i-test.true c.against_edit-against.ensures c.in_err-at.ensures) ∙ c.loop-i.invariant))

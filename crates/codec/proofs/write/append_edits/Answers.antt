@@ -8,16 +8,16 @@ use Rattle.codec.specs.Files.{all_written}
 use Rattle.codec.proofs.Writes.{added_step}
 use Rattle.codec.proofs.write.append_edits.Goals as goal
 
-pub append-edit-requires : goal.append-edit-requires
-append-edit-requires c = All-get_or (Held c.args.source.now) c.args.edits.now c.loop-edit.edit-index AddLayer c.loop-edit-test.true c.requires
+pub append_edit-requires : goal.append_edit-requires
+append_edit-requires c = All-get_or (Held c.args.source.now) c.args.edits.now c.loop-edit.edit-index AddLayer c.loop-edit-test.true c.requires
 
 pub loop-edit-init : goal.loop-edit-init
 loop-edit-init c = sym (append-nil (vec_items c.args.out.now))
 
 pub loop-edit-preserved : goal.loop-edit-preserved
 loop-edit-preserved c =
-    added_step written (edit_of c.args.source.now) c.args.edits.now c.loop-edit.edit-index AddLayer (vec_items c.args.out.now) (vec_items c.loop-edit.out) (vec_items c.append-edit.new.out) c.loop-edit-test.true
-    c.loop-edit.invariant c.in-ok-append-edit.ensures
+    added_step written (edit_of c.args.source.now) c.args.edits.now c.loop-edit.edit-index AddLayer (vec_items c.args.out.now) (vec_items c.loop-edit.out) (vec_items c.append_edit.new.out) c.loop-edit-test.true
+    c.loop-edit.invariant c.in_ok-append_edit.ensures
 
 pub returns : goal.returns
 returns c =

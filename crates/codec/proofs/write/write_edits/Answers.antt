@@ -10,8 +10,8 @@ use Rattle.codec.specs.Put.{put_at}
 use Rattle.codec.proofs.Writes.{put_none, put_room, put_step}
 use Rattle.codec.proofs.write.write_edits.Goals as goal
 
-pub write-edit-at-requires : goal.write-edit-at-requires
-write-edit-at-requires c =
+pub write_edit-at-requires : goal.write_edit-at-requires
+write_edit-at-requires c =
     let bs = c.args.source.now in let edits = c.args.edits.now in let i = c.loop-edit.edit-index in
     let good = All-get_or (EditGood bs) edits i AddLayer c.loop-edit-test.true c.requires.good in
     record {
@@ -27,7 +27,7 @@ loop-edit-preserved c =
     let bs = c.args.source.now in let edits = c.args.edits.now in let i = c.loop-edit.edit-index in
     put_step bs edits i AddLayer c.args.out.now c.loop-edit.out _ c.args.start c.loop-edit.at _ c.loop-edit-test.true
     (All-get_or (EditGood bs) edits i AddLayer c.loop-edit-test.true c.requires.good) c.requires.room c.loop-edit.invariant
-    c.write-edit-at.ensures.after c.write-edit-at.ensures.end
+    c.write_edit-at.ensures.after c.write_edit-at.ensures.end
 
 pub returns : goal.returns
 returns c =

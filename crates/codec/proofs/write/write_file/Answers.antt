@@ -9,9 +9,9 @@ returns c =
     let room : file_room edits ≤ length out = omega (arith, c.if-out-edits.false) in
     record {
       after =
-          put_file bs c.args.width c.args.height edits c.args.done c.requires.few.1 out c.write-head-start.new.out _ c.write-head-start.result c.write-edits.result
-          room c.write-head-start.ensures.after c.write-head-start.ensures.end c.write-edits.ensures.after;
+          put_file bs c.args.width c.args.height edits c.args.done c.requires.few.1 out c.write_head-start.new.out _ c.write_head-start.result c.write_edits.result
+          room c.write_head-start.ensures.after c.write_head-start.ensures.end c.write_edits.ensures.after;
       answer =
-          file_end bs c.args.width c.args.height edits c.args.done c.requires.few.1 out c.write-head-start.new.out c.write-edits.new.out c.write-head-start.result _
-          room c.write-head-start.ensures.after c.write-head-start.ensures.end c.write-edits.ensures.end;
+          file_end bs c.args.width c.args.height edits c.args.done c.requires.few.1 out c.write_head-start.new.out c.write_edits.new.out c.write_head-start.result _
+          room c.write_head-start.ensures.after c.write_head-start.ensures.end c.write_edits.ensures.end;
     }

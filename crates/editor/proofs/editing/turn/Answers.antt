@@ -11,8 +11,8 @@ enough s turns tiles work e = (grind (arith, nat_tests), grind (arith, nat_tests
 pub step-next-requires : goal.step-next-requires
 step-next-requires c =
     let s = c.args.editor.now in
-    let taken = c.in-ok-turn.ensures.means in
-    let room = enough s (length c.args.turns.now) (length c.args.tiles.now) (length c.args.work.now) (sym c.against-turn-against.ensures ∙ taken.free) in (
+    let taken = c.in_ok-turn.ensures.means in
+    let room = enough s (length c.args.turns.now) (length c.args.tiles.now) (length c.args.work.now) (sym c.against_turn-against.ensures ∙ taken.free) in (
       record { for_tiles = room.1; for_turns = omega (arith, room.0) },
       record { is = taken.is; fits = taken.fits; is_built = taken.is_built; held = taken.held; free = refl },
     )

@@ -3,20 +3,20 @@ use Rattle.codec.specs.Files.{done_of, undone_of}
 use Rattle.editor.proofs.Filing.{taken_row, taken_long, opened, read_ends}
 use Rattle.editor.proofs.files.read.Goals as goal
 
-pub read-slots-requires : goal.read-slots-requires
-read-slots-requires c =
+pub read_slots-requires : goal.read_slots-requires
+read_slots-requires c =
     let bs = c.args.file.now in
-    let f = c.in-ok-head.head in
-    let t = c.in-ok-head.ensures.means in
+    let f = c.in_ok-head.head in
+    let t = c.in_ok-head.ensures.means in
     (omega (arith, t.enough.for_turns), (done_of bs f ++ undone_of bs f, (taken_row bs _ f t, taken_long bs _ f t)))
 
 pub returns : goal.returns
 returns c =
     let bs = c.args.file.now in
-    let f = c.in-ok-head.head in
-    let t = c.in-ok-head.ensures.means in
+    let f = c.in_ok-head.head in
+    let t = c.in_ok-head.ensures.means in
     let made = c.remake-canvas.ensures in
-    let row = c.read-slots.ensures.row (done_of bs f ++ undone_of bs f) (taken_row bs _ f t) (taken_long bs _ f t) in
-    read_ends bs c.args.turns.now c.args.tiles.now c.args.work.now c.read-slots.new.turns c.remake-canvas.new.tiles c.args.work.now f _ _ c.in-ok-head.ensures.scans
-    c.read-slots.ensures.long made.long refl
-    (opened bs _ f _ c.read-slots.new.turns c.remake-canvas.new.tiles t made.wide_is made.high_is refl refl refl row made.long made.holds)
+    let row = c.read_slots.ensures.row (done_of bs f ++ undone_of bs f) (taken_row bs _ f t) (taken_long bs _ f t) in
+    read_ends bs c.args.turns.now c.args.tiles.now c.args.work.now c.read_slots.new.turns c.remake-canvas.new.tiles c.args.work.now f _ _ c.in_ok-head.ensures.scans
+    c.read_slots.ensures.long made.long refl
+    (opened bs _ f _ c.read_slots.new.turns c.remake-canvas.new.tiles t made.wide_is made.high_is refl refl refl row made.long made.holds)

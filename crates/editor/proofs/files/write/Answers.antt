@@ -4,5 +4,5 @@ use Rattle.editor.proofs.files.write.Goals as goal
 
 pub returns : goal.returns
 returns c =
-    written_ends c.args.editor.now c.args.turns.now c.args.file.now c.write-head-start.new.out c.write-slots.new.out c.write-head-start.result c.write-slots.result (omega arith) (omega arith)
-    c.write-head-start.ensures.after c.write-head-start.ensures.end c.write-slots.ensures.after c.write-slots.ensures.end
+    written_ends c.args.editor.now c.args.turns.now c.args.file.now c.write_head-start.new.out c.write_slots.new.out c.write_head-start.result c.write_slots.result (omega arith) (omega arith)
+    c.write_head-start.ensures.after c.write_head-start.ensures.end c.write_slots.ensures.after c.write_slots.ensures.end

@@ -24,29 +24,29 @@ ends bs es at k end row l stands is =
       soon = omega (arith, size, written_short (next bs es at k row l stands) (next_fits bs es at k row l stands));
     }
 
-pub slice-bounds-put-slot-count : goal.slice-bounds-put-slot-count
-slice-bounds-put-slot-count c =
+pub slice_bounds-put_slot-count : goal.slice_bounds-put_slot-count
+slice_bounds-put_slot-count c =
     let p = c.requires.1 in
-    (ends c.args.file.now p.0 c.loop-k.at c.loop-k.k _ p.1.0 (omega (arith, p.1.1)) (c.loop-k.invariant p.0 p.1.0 p.1.1).0 (ap (λ r. r.1) c.edit-at-end.ensures.is)).forward
+    (ends c.args.file.now p.0 c.loop-k.at c.loop-k.k _ p.1.0 (omega (arith, p.1.1)) (c.loop-k.invariant p.0 p.1.0 p.1.1).0 (ap (λ r. r.1) c.edit_at-end.ensures.is)).forward
 
-pub slice-bounds-put-slot-start : goal.slice-bounds-put-slot-start
-slice-bounds-put-slot-start c =
+pub slice_bounds-put_slot-start : goal.slice_bounds-put_slot-start
+slice_bounds-put_slot-start c =
     let p = c.requires.1 in
-    (ends c.args.file.now p.0 c.loop-k.at c.loop-k.k _ p.1.0 (omega (arith, p.1.1)) (c.loop-k.invariant p.0 p.1.0 p.1.1).0 (ap (λ r. r.1) c.edit-at-end.ensures.is)).forward
+    (ends c.args.file.now p.0 c.loop-k.at c.loop-k.k _ p.1.0 (omega (arith, p.1.1)) (c.loop-k.invariant p.0 p.1.0 p.1.1).0 (ap (λ r. r.1) c.edit_at-end.ensures.is)).forward
 
-pub slice-bounds-put-slot-end : goal.slice-bounds-put-slot-end
-slice-bounds-put-slot-end c =
+pub slice_bounds-put_slot-end : goal.slice_bounds-put_slot-end
+slice_bounds-put_slot-end c =
     let p = c.requires.1 in
-    (ends c.args.file.now p.0 c.loop-k.at c.loop-k.k _ p.1.0 (omega (arith, p.1.1)) (c.loop-k.invariant p.0 p.1.0 p.1.1).0 (ap (λ r. r.1) c.edit-at-end.ensures.is)).within
+    (ends c.args.file.now p.0 c.loop-k.at c.loop-k.k _ p.1.0 (omega (arith, p.1.1)) (c.loop-k.invariant p.0 p.1.0 p.1.1).0 (ap (λ r. r.1) c.edit_at-end.ensures.is)).within
 
-pub put-slot-requires : goal.put-slot-requires
-put-slot-requires c =
+pub put_slot-requires : goal.put_slot-requires
+put_slot-requires c =
     let p = c.requires.1 in
     let bs = c.args.file.now in
     let at = c.loop-k.at in
-    let e = ends bs p.0 at c.loop-k.k c.edit-at-end.result.1 p.1.0 (omega (arith, p.1.1)) (c.loop-k.invariant p.0 p.1.0 p.1.1).0 (ap (λ r. r.1) c.edit-at-end.ensures.is) in
-    let size : length (take (c.edit-at-end.result.1 - at) (drop at bs)) ≡ c.edit-at-end.result.1 - at
-    = length-take-le (c.edit-at-end.result.1 - at) (drop at bs) (omega (arith, length-drop at bs, e.within)) in
+    let e = ends bs p.0 at c.loop-k.k c.edit_at-end.result.1 p.1.0 (omega (arith, p.1.1)) (c.loop-k.invariant p.0 p.1.0 p.1.1).0 (ap (λ r. r.1) c.edit_at-end.ensures.is) in
+    let size : length (take (c.edit_at-end.result.1 - at) (drop at bs)) ≡ c.edit_at-end.result.1 - at
+    = length-take-le (c.edit_at-end.result.1 - at) (drop at bs) (omega (arith, length-drop at bs, e.within)) in
     (omega (arith, size, e.soon, c.requires.0, c.loop-k.auto.turns), omega (arith, size, e.soon))
 
 pub loop-k-preserved : goal.loop-k-preserved
@@ -55,9 +55,9 @@ loop-k-preserved c = λ es row long.
     let k = c.loop-k.k in
     let l : k < length es = omega arith in
     let so = c.loop-k.invariant es row long in
-    let end = ap (λ r. r.1) c.edit-at-end.ensures.is ∙ next_end bs es c.loop-k.at k row l so.0 in (
+    let end = ap (λ r. r.1) c.edit_at-end.ensures.is ∙ next_end bs es c.loop-k.at k row l so.0 in (
       next_rest bs es c.loop-k.at k row l so.0 _ end,
-      next_row bs es c.loop-k.at k row l so.0 _ _ _ c.put-slot.ensures (next_bytes bs es c.loop-k.at k row l so.0 _ end) so.1,
+      next_row bs es c.loop-k.at k row l so.0 _ _ _ c.put_slot.ensures (next_bytes bs es c.loop-k.at k row l so.0 _ end) so.1,
     )
 
 pub returns : goal.returns

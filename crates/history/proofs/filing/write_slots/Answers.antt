@@ -9,8 +9,8 @@ use Rattle.history.specs.Slots.{edits_in}
 use Rattle.history.proofs.Rows.{put_slot_row, slot_room}
 use Rattle.history.proofs.filing.write_slots.Goals as goal
 
-pub write-edit-at-requires : goal.write-edit-at-requires
-write-edit-at-requires c =
+pub write_edit-at-requires : goal.write_edit-at-requires
+write_edit-at-requires c =
     let xs = c.args.turns.now in
     record {
       held = c.slot_edit.ensures.good.held;
@@ -24,7 +24,7 @@ pub loop-k-preserved : goal.loop-k-preserved
 loop-k-preserved c =
     let xs = c.args.turns.now in
     put_slot_row c.args.out.now c.loop-k.out _ xs c.args.start c.loop-k.at _ c.loop-k.k c.args.count (edit_of xs c.slot_edit.result) c.slot_edit.ensures.means c.slot_edit.ensures.good.fits (omega arith) c.requires.1 c.loop-k.invariant
-    c.write-edit-at.ensures.after c.write-edit-at.ensures.end
+    c.write_edit-at.ensures.after c.write_edit-at.ensures.end
 
 pub returns : goal.returns
 returns c =

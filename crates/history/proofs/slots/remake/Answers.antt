@@ -5,8 +5,8 @@ use Rattle.history.specs.Slots.{latest_in, made_by}
 use Rattle.history.proofs.Histories.{all_hold}
 use Rattle.history.proofs.slots.remake.Goals as goal
 
-pub rebuild-all-requires : goal.rebuild-all-requires
-rebuild-all-requires c =
+pub rebuild_all-requires : goal.rebuild_all-requires
+rebuild_all-requires c =
     let made = c.replay-canvas.ensures in
     omega (arith, ap₂ ◌*◌ made.wide_is made.high_is, made.long, c.requires.0.enough)
 
@@ -18,6 +18,6 @@ returns c =
     record {
       wide_is = made.wide_is;
       high_is = made.high_is;
-      holds = all_hold s es _ _ (subst₂ (λ w h. Agree (view s c.replay-canvas.new.tiles) (made_by w h es)) (sym made.wide_is) (sym made.high_is) made.agrees) c.rebuild-all.ensures;
-      long = c.rebuild-all.ensures.wrote.long ∙ made.long;
+      holds = all_hold s es _ _ (subst₂ (λ w h. Agree (view s c.replay-canvas.new.tiles) (made_by w h es)) (sym made.wide_is) (sym made.high_is) made.agrees) c.rebuild_all.ensures;
+      long = c.rebuild_all.ensures.wrote.long ∙ made.long;
     }

@@ -4,4 +4,4 @@ use Rattle.pixel.proofs.channels.mix_of.Goals as goal
 
 pub returns : goal.returns
 unfolding mixed
-returns c = record { is = c.lerp-of.ensures.is ∙ ap (λ b. lerp c.args.by b c.args.old) c.blend-of.ensures.is; fits = c.lerp-of.ensures.fits }
+returns c = record { is = c.lerp_of.ensures.is ∙ ap (λ b. lerp c.args.by b c.args.old) c.blend_of.ensures.is; fits = c.lerp_of.ensures.fits }

@@ -1,4 +1,4 @@
-use Rattle.std.proofs.Common.{refl, arith}
+use Rattle.std.proofs.Common.{refl}
 use Rattle.pixel.specs.Channels.{share}
 use Rattle.pixel.proofs.Bounds.{share_fits}
 use Rattle.pixel.proofs.channels.share_of.Goals as goal

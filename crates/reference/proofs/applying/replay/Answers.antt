@@ -15,13 +15,13 @@ use Rattle.reference.proofs.applying.replay.Goals as goal
 
 pub loop-k-init : goal.loop-k-init
 loop-k-init c =
-    let new = c.make-blank-canvas.ensures in
+    let new = c.make_blank-canvas.ensures in
     (new.canvas.wide_is, new.canvas.high_is, new.agrees)
 
 pub apply-requires : goal.apply-requires
 apply-requires c =
     let area : c.loop-k.canvas.wide * c.loop-k.canvas.high ≡ c.args.wide * c.args.high = ap₂ ◌*◌ c.loop-k.invariant.0 c.loop-k.invariant.1 in
-    omega (arith, area, c.requires.0.enough, c.make-blank-canvas.ensures.long, c.loop-k.auto.tiles)
+    omega (arith, area, c.requires.0.enough, c.make_blank-canvas.ensures.long, c.loop-k.auto.tiles)
 
 pub loop-k-preserved : goal.loop-k-preserved
 loop-k-preserved c =
@@ -40,4 +40,4 @@ returns c =
     let all : take c.loop-k.k c.args.edits.now ≡ c.args.edits.now = take_all c.loop-k.k c.args.edits.now c.loop-k-test.false in
     replayed c.args.wide c.args.high _ _ _ c.loop-k.canvas c.loop-k.invariant.0 c.loop-k.invariant.1
     (subst (λ (es : _). Agree (view c.loop-k.canvas c.loop-k.tiles) (after (blank c.args.wide c.args.high) (meanings c.args.source.now es))) all c.loop-k.invariant.2)
-    (c.loop-k.auto.tiles ∙ c.make-blank-canvas.ensures.long)
+    (c.loop-k.auto.tiles ∙ c.make_blank-canvas.ensures.long)

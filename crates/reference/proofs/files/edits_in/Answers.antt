@@ -9,9 +9,9 @@ loop-edit-init c =
 
 pub loop-edit-preserved : goal.loop-edit-preserved
 loop-edit-preserved c =
-    let pushed = c.in-ok-push.ensures in (
-      subst₂ (λ n es. SoFar c.args.bytes.now n c.edit-at-edit.result.1 es) (sym pushed.len) (sym pushed.items)
-          (read_more c.args.bytes.now (vec_len c.loop-edit.edits) c.loop-edit.at (vec_items c.loop-edit.edits) c.edit-at-edit.result c.loop-edit.invariant.0 c.edit-at-edit.ensures.is c.edit-at-edit.ensures.good),
+    let pushed = c.in_ok-push.ensures in (
+      subst₂ (λ n es. SoFar c.args.bytes.now n c.edit_at-edit.result.1 es) (sym pushed.len) (sym pushed.items)
+          (read_more c.args.bytes.now (vec_len c.loop-edit.edits) c.loop-edit.at (vec_items c.loop-edit.edits) c.edit_at-edit.result c.loop-edit.invariant.0 c.edit_at-edit.ensures.is c.edit_at-edit.ensures.good),
       omega (arith, pushed.len),
     )
 

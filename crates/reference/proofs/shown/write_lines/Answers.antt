@@ -12,8 +12,8 @@ use Rattle.reference.specs.Lists.{meanings}
 use Rattle.reference.specs.Shown.{edit_line}
 use Rattle.reference.proofs.shown.write_lines.Goals as goal
 
-pub append-edit-requires : goal.append-edit-requires
-append-edit-requires c = All-get_or (Held c.args.source.now) c.args.edits.now c.loop-edit.edit-index AddLayer c.loop-edit-test.true c.requires
+pub append_edit-requires : goal.append_edit-requires
+append_edit-requires c = All-get_or (Held c.args.source.now) c.args.edits.now c.loop-edit.edit-index AddLayer c.loop-edit-test.true c.requires
 
 pub loop-edit-init : goal.loop-edit-init
 loop-edit-init c = sym (append-nil (vec_items c.args.out.now))
@@ -22,9 +22,9 @@ pub loop-edit-preserved : goal.loop-edit-preserved
 loop-edit-preserved c =
     let out = vec_items c.loop-edit.out in
     let e = edit_of c.args.source.now (get_or c.args.edits.now c.loop-edit.edit-index AddLayer) in
-    let turn = c.as-slice.ensures.value ∙ (c.in-ok-append-edit.ensures ∙ ap (λ xs. xs ++ written e) c.new-turn.ensures.items) in
-    let line = c.as-slice-in-loop-edit.ensures.value ∙ (c.in-ok-line.ensures ∙ ap worded turn) in
-    let added = both_added out (vec_items c.extend-from-slice.new.self) (vec_items c.push.new.self) _ (10 ∷ []) c.in-ok-extend-from-slice.ensures.items c.in-ok-push.ensures.items in
+    let turn = c.as_slice.ensures.value ∙ (c.in_ok-append_edit.ensures ∙ ap (λ xs. xs ++ written e) c.new-turn.ensures.items) in
+    let line = c.as_slice-in-loop-edit.ensures.value ∙ (c.in_ok-line.ensures ∙ ap worded turn) in
+    let added = both_added out (vec_items c.extend_from_slice.new.self) (vec_items c.push.new.self) _ (10 ∷ []) c.in_ok-extend_from_slice.ensures.items c.in_ok-push.ensures.items in
     added_step edit_line (edit_of c.args.source.now) c.args.edits.now c.loop-edit.edit-index AddLayer (vec_items c.args.out.now) out (vec_items c.push.new.self) c.loop-edit-test.true
     c.loop-edit.invariant (added ∙ ap (λ xs. out ++ (xs ++ 10 ∷ [])) line)
 

@@ -14,4 +14,4 @@ returns-then-layer-eq0 c =
     grid_same c.args.at t.wide _ t.high xs
     (λ i j iw jh.
     let old = tile_pixel t c.args.at xs i j in
-    layer_none s.wide s.high xs (get_or s.layers c.args.k no_entry) (t.left + i) (t.top + j) old c.if-layer-eq0.true (omega (arith, c.type-inv.tiles (c.args.at + 4 * (j * t.wide + i) + 3))))
+    layer_none s.wide s.high xs (get_or s.layers c.args.k no_entry) (t.left + i) (t.top + j) old c.if-layer-eq0.true (omega (arith, c.type_inv.tiles (c.args.at + 4 * (j * t.wide + i) + 3))))

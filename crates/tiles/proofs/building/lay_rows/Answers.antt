@@ -9,8 +9,8 @@ use Rattle.tiles.specs.Laying.{tile_pixel}
 use Rattle.tiles.proofs.Grids.{grid_more, grid_after, grid_is}
 use Rattle.tiles.proofs.building.lay_rows.Goals as goal
 
-pub lay-row-requires : goal.lay-row-requires
-lay-row-requires c =
+pub lay_row-requires : goal.lay_row-requires
+lay_row-requires c =
     let t = c.args.tile in
     let r = c.loop-r.r in
     let s = c.args.canvas.now in
@@ -21,8 +21,8 @@ loop-r-preserved c =
     let t = c.args.tile in
     let r = c.loop-r.r in
     let s = c.args.canvas.now in
-    let from = c.plane-of.result + 4 * (t.top * s.wide + t.left) + 4 * (r * s.wide) in
-    grid_more c.args.at t.wide _ _ r c.args.tiles.now c.loop-r.tiles c.lay-row.new.tiles c.loop-r.invariant c.lay-row.ensures
+    let from = c.plane_of.result + 4 * (t.top * s.wide + t.left) + 4 * (r * s.wide) in
+    grid_more c.args.at t.wide _ _ r c.args.tiles.now c.loop-r.tiles c.lay_row.new.tiles c.loop-r.invariant c.lay_row.ensures
     (λ i iw.
     let to : c.args.at + 4 * (r * t.wide) + 4 * i ≡ c.args.at + 4 * (r * t.wide + i) = omega arith in
     ap₂ (pixel_over _ _)
@@ -37,7 +37,7 @@ returns c =
     let e = get_or s.layers c.args.k no_entry in
     grid_is c.args.at t.wide _ _ c.loop-r.r t.high xs c.loop-r.tiles (omega arith)
     (λ i j iw jh.
-    let from : c.plane-of.result + 4 * (t.top * s.wide + t.left) + 4 * (j * s.wide) + 4 * i ≡ c.plane-of.result + 4 * ((t.top + j) * s.wide + (t.left + i)) = omega arith in
+    let from : c.plane_of.result + 4 * (t.top * s.wide + t.left) + 4 * (j * s.wide) + 4 * i ≡ c.plane_of.result + 4 * ((t.top + j) * s.wide + (t.left + i)) = omega arith in
     ap (λ (q : ℕ). pixel_over (mode_number e.mode) e.opacity (pixel_at xs q) (tile_pixel t c.args.at xs i j))
-    (from ∙ ap (λ (q : ℕ). q + 4 * ((t.top + j) * s.wide + (t.left + i))) c.plane-of.ensures.is))
+    (from ∙ ap (λ (q : ℕ). q + 4 * ((t.top + j) * s.wide + (t.left + i))) c.plane_of.ensures.is))
     c.loop-r.invariant

@@ -5,8 +5,8 @@ use Rattle.tiles.specs.Places.{begins}
 use Rattle.tiles.proofs.Offsets.{place_ends}
 use Rattle.tiles.proofs.showing.show.Goals as goal
 
-pub read-pixel-requires : goal.read-pixel-requires
-read-pixel-requires c =
+pub read_pixel-requires : goal.read_pixel-requires
+read_pixel-requires c =
     let s = c.args.canvas.now in
     let lies = place_ends s.wide s.high c.args.x c.args.y (omega arith) (omega arith) in
-    omega (arith, lies, ap (λ (a : Area). begins s.wide s.high a + 4 * (c.args.y % 32 * a.wide + c.args.x % 32)) c.tile-of-tile.ensures)
+    omega (arith, lies, ap (λ (a : Area). begins s.wide s.high a + 4 * (c.args.y % 32 * a.wide + c.args.x % 32)) c.tile_of-tile.ensures)

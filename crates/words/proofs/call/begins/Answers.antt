@@ -8,5 +8,5 @@ returns-then-args-count c = too_few string_bytes c.args.args.now c.args.count _ 
 
 pub returns : goal.returns
 returns c =
-    enough string_bytes c.args.args.now c.args.count c.is-word.result _ (omega arith)
-    (c.is-word.ensures ∙ ap (λ w. bytes_eq w c.args.word.now) (c.as-str.ensures.value ∙ word_at string_bytes c.args.args.now 0 c.index-args-0.result (omega arith) c.index-args-0.is))
+    enough string_bytes c.args.args.now c.args.count c.is_word.result _ (omega arith)
+    (c.is_word.ensures ∙ ap (λ w. bytes_eq w c.args.word.now) (c.as_str.ensures.value ∙ word_at string_bytes c.args.args.now 0 c.index-args-0.result (omega arith) c.index-args-0.is))

@@ -6,4 +6,4 @@ use Rattle.words.proofs.call.is_word.Goals as goal
 
 pub returns : goal.returns
 returns c =
-    same_from_decides c.eq.result _ (slice_eq-Decides Decides-eqb _ _ _ c.eq.ensures) (bytes_eq-Decides c.as-bytes.result.now c.as-bytes-2.result.now) ∙ ap₂ bytes_eq c.as-bytes.ensures.value c.as-bytes-2.ensures.value
+    same_from_decides c.eq.result _ (slice_eq-Decides Decides-eqb _ _ _ c.eq.ensures) (bytes_eq-Decides c.as_bytes.result.now c.as_bytes-2.result.now) ∙ ap₂ bytes_eq c.as_bytes.ensures.value c.as_bytes-2.ensures.value

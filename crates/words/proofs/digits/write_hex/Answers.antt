@@ -6,8 +6,8 @@ use Rattle.words.proofs.digits.write_hex.Goals as goal
 
 pub loop-b-preserved : goal.loop-b-preserved
 loop-b-preserved c =
-    hex_step (vec_items c.loop-b.out) (vec_items c.extend-from-slice.new.self) c.args.bytes.now c.loop-b.b-index _ _
-    c.loop-b-test.true c.hex-digit.ensures c.hex-digit-in-loop-b.ensures c.in-ok-extend-from-slice.ensures.items
+    hex_step (vec_items c.loop-b.out) (vec_items c.extend_from_slice.new.self) c.args.bytes.now c.loop-b.b-index _ _
+    c.loop-b-test.true c.hex_digit.ensures c.hex_digit-in-loop-b.ensures c.in_ok-extend_from_slice.ensures.items
     ∙ c.loop-b.invariant
 
 pub returns : goal.returns

@@ -4,8 +4,8 @@ use Rattle.std.proofs.lemmas.Slice.{between_to_end}
 use Rattle.words.proofs.Numerals.{room, digit_put}
 use Rattle.words.proofs.digits.write_number.Goals as goal
 
-pub overflow-sub-at : goal.overflow-sub-at
-overflow-sub-at c = room c.args.n c.loop-left.left c.loop-left.digits c.loop-left.at (omega arith) (omega arith) (omega arith) c.loop-left.invariant.3
+pub overflow_sub-at : goal.overflow_sub-at
+overflow_sub-at c = room c.args.n c.loop-left.left c.loop-left.digits c.loop-left.at (omega arith) (omega arith) (omega arith) c.loop-left.invariant.3
 
 pub loop-left-preserved : goal.loop-left-preserved
 loop-left-preserved c =
@@ -21,8 +21,8 @@ loop-left-preserved c =
       digit_put (decimal (n / 10)) ds at v some (omega arith) ∙ (ap (λ xs. xs ++ drop at ds) (sym step) ∙ c.loop-left.invariant.3),
     )
 
-pub overflow-sub-at-2 : goal.overflow-sub-at-2
-overflow-sub-at-2 c = room c.args.n c.loop-left.left c.loop-left.digits c.loop-left.at (omega arith) (omega arith) (omega arith) c.loop-left.invariant.3
+pub overflow_sub-at-2 : goal.overflow_sub-at-2
+overflow_sub-at-2 c = room c.args.n c.loop-left.left c.loop-left.digits c.loop-left.at (omega arith) (omega arith) (omega arith) c.loop-left.invariant.3
 
 pub returns : goal.returns
 returns c =
@@ -34,4 +34,4 @@ returns c =
     let last = decimal_digit n c.loop-left-test.false in
     let all = digit_put [] ds at (48 + n) some (omega arith) ∙ (ap (λ xs. xs ++ drop at ds) (sym last) ∙ c.loop-left.invariant.3) in
     let part = between_to_end (set ds (at - 1) (48 + n)) (at - 1) 20 (simp length-set (omega arith)) in
-    c.extend-from-slice.ensures.items ∙ ap (λ xs. cond (is_ok c.extend-from-slice.result) (old ++ xs) old) (part ∙ all)
+    c.extend_from_slice.ensures.items ∙ ap (λ xs. cond (is_ok c.extend_from_slice.result) (old ++ xs) old) (part ∙ all)

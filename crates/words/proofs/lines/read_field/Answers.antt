@@ -14,10 +14,10 @@ returns-in-default c =
     let old = vec_items c.args.turn.now in
     at_field _ Byte old c.args.word.now None c.in-Byte.is (ap (λ o. option_append (Some old) (one o)) c.in-default.ensures.is)
 
-pub returns-in-default-read-number : goal.returns-in-default-read-number
-returns-in-default-read-number c =
+pub returns-in-default-read_number : goal.returns-in-default-read_number
+returns-in-default-read_number c =
     let old = vec_items c.args.turn.now in
-    at_field _ Short old c.args.word.now None c.in-Short.is (ap (λ o. option_append (Some old) (option_map two o)) c.in-default-read-number.ensures.is)
+    at_field _ Short old c.args.word.now None c.in-Short.is (ap (λ o. option_append (Some old) (option_map two o)) c.in-default-read_number.ensures.is)
 
 pub returns-then-word-ne8 : goal.returns-then-word-ne8
 returns-then-word-ne8 c =
@@ -25,22 +25,22 @@ returns-then-word-ne8 c =
     let w = c.args.word.now in
     at_field _ Colour old w None c.in-Colour.is (ap (λ b. option_append (Some old) (cond b (hex_bytes w) None)) (sym (ne_eqb _ 8 c.if-word-ne8.true)))
 
-pub returns-in-ok-push : goal.returns-in-ok-push
-returns-in-ok-push c =
+pub returns-in_ok-push : goal.returns-in_ok-push
+returns-in_ok-push c =
     let old = vec_items c.args.turn.now in
     at_field _ Byte old c.args.word.now _ c.in-Byte.is
-    (ap (λ (xs : List ℕ). Some xs) c.in-ok-push.ensures.items ∙ ap (λ o. option_append (Some old) (one o)) c.in-Some.ensures.is)
+    (ap (λ (xs : List ℕ). Some xs) c.in_ok-push.ensures.items ∙ ap (λ o. option_append (Some old) (one o)) c.in-Some.ensures.is)
 
-pub returns-in-ok-extend-from-slice : goal.returns-in-ok-extend-from-slice
-returns-in-ok-extend-from-slice c =
+pub returns-in_ok-extend_from_slice : goal.returns-in_ok-extend_from_slice
+returns-in_ok-extend_from_slice c =
     let old = vec_items c.args.turn.now in
     at_field _ Short old c.args.word.now _ c.in-Short.is
-    (ap (λ (xs : List ℕ). Some xs) c.in-ok-extend-from-slice.ensures.items ∙ ap (λ o. option_append (Some old) (option_map two o)) c.in-Some-read-number.ensures.is)
+    (ap (λ (xs : List ℕ). Some xs) c.in_ok-extend_from_slice.ensures.items ∙ ap (λ o. option_append (Some old) (option_map two o)) c.in-Some-read_number.ensures.is)
 
 pub returns-else-word-ne8 : goal.returns-else-word-ne8
 returns-else-word-ne8 c =
     let old = vec_items c.args.turn.now in
     let w = c.args.word.now in
-    IfOk-weaker c.read-hex.result _ _
+    IfOk-weaker c.read_hex.result _ _
     (λ ok e. at_field _ Colour old w _ c.in-Colour.is (e ∙ ap (λ b. option_append (Some old) (cond b (hex_bytes w) None)) (sym (eq-eqb _ 8 c.if-word-ne8.false))))
-    c.read-hex.ensures
+    c.read_hex.ensures

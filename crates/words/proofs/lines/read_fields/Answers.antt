@@ -13,13 +13,13 @@ returns-in-default c =
 pub returns-then-not-branch : goal.returns-then-not-branch
 returns-then-not-branch c =
     fields_step c.args.fields.now c.loop-field.field-index Byte (vec_items c.loop-field.turn) None _ _ _
-    c.loop-field-test.true c.in-Some.ensures (at_flag _ false _ _ c.if-not-branch.true c.in-ok-read-field.ensures)
+    c.loop-field-test.true c.in-Some.ensures (at_flag _ false _ _ c.if-not-branch.true c.in_ok-read_field.ensures)
     ∙ c.loop-field.invariant
 
 pub loop-field-preserved : goal.loop-field-preserved
 loop-field-preserved c =
     fields_step c.args.fields.now c.loop-field.field-index Byte (vec_items c.loop-field.turn) _ _ _ _
-    c.loop-field-test.true c.in-Some.ensures (at_flag _ true _ _ c.if-not-branch.false c.in-ok-read-field.ensures)
+    c.loop-field-test.true c.in-Some.ensures (at_flag _ true _ _ c.if-not-branch.false c.in_ok-read_field.ensures)
     ∙ c.loop-field.invariant
 
 pub returns : goal.returns

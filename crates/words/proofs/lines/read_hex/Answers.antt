@@ -19,7 +19,7 @@ loop-i-preserved c =
     let i = c.loop-i.i in
     let old = vec_items c.loop-i.turn in
     then_on (Some (vec_items c.push.new.self)) old _ (hex_bytes (drop (2 * (i + 1)) w))
-    (ap (λ (xs : List ℕ). Some xs) c.in-ok-push.ensures.items ∙ ap (λ o. option_append (Some old) (one o)) c.in-Some.ensures)
+    (ap (λ (xs : List ℕ). Some xs) c.in_ok-push.ensures.items ∙ ap (λ o. option_append (Some old) (one o)) c.in-Some.ensures)
     ∙ (ap (option_append (Some old)) (sym (hex_at w i (omega arith))) ∙ c.loop-i.invariant)
 
 pub returns : goal.returns

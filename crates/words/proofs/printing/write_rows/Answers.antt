@@ -10,8 +10,8 @@ pub loop-y-preserved : goal.loop-y-preserved
 loop-y-preserved g c =
     let format = c.args.format in
     let seen = g.P.Shows.seen c.args.page.now in
-    one_more (λ y. cells format c.args.wide (λ x. seen x y) ++ row_end format) c.loop-y.y (vec_items c.args.out.now) (vec_items c.loop-y.out) (vec_items c.end-row.new.out) c.loop-y.invariant
-    (both_added (vec_items c.loop-y.out) (vec_items c.write-cells.new.out) (vec_items c.end-row.new.out) _ _ c.in-ok-write-cells.ensures c.in-ok-end-row.ensures)
+    one_more (λ y. cells format c.args.wide (λ x. seen x y) ++ row_end format) c.loop-y.y (vec_items c.args.out.now) (vec_items c.loop-y.out) (vec_items c.end_row.new.out) c.loop-y.invariant
+    (both_added (vec_items c.loop-y.out) (vec_items c.write_cells.new.out) (vec_items c.end_row.new.out) _ _ c.in_ok-write_cells.ensures c.in_ok-end_row.ensures)
 
 pub returns : goal.returns
 returns g c =

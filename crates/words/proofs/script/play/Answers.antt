@@ -10,8 +10,8 @@ pub loop-line-preserved : goal.loop-line-preserved
 loop-line-preserved g c = (
   omega (arith, c.in-Some.ensures.1),
   onward_step g.P.Takes.steps (lines_of c.args.script.now) c.args.page.now (string_bytes c.args.messages.now) (c.loop-line.number + 1) (lines_of c.loop-line.rest.now) _ _
-      c.loop-line.page c.take-line.new.page (string_bytes c.loop-line.messages) (string_bytes c.take-line.new.messages) c.loop-line.all c.in-ok-taken.taken
-      c.loop-line.invariant.1 c.in-Some.ensures.0 c.in-ok-taken.ensures,
+      c.loop-line.page c.take_line.new.page (string_bytes c.loop-line.messages) (string_bytes c.take_line.new.messages) c.loop-line.all c.in_ok-taken.taken
+      c.loop-line.invariant.1 c.in-Some.ensures.0 c.in_ok-taken.ensures,
 )
 
 pub returns : goal.returns

@@ -4,11 +4,11 @@ use Rattle.words.specs.Split.{is_space, split, ended, words_of}
 use Rattle.words.proofs.Splitting.{split_on, split_off, split_end, not_first}
 use Rattle.words.proofs.split.word_length.Goals as goal
 
-pub returns-then-is-space : goal.returns-then-is-space
-returns-then-is-space c =
+pub returns-then-is_space : goal.returns-then-is_space
+returns-then-is_space c =
     let xs = c.args.line.now in
     let i = c.loop-i.i in
-    let here : is_space (get_or xs i 0) ≡ true = sym c.if-is-space.ensures in
+    let here : is_space (get_or xs i 0) ≡ true = sym c.if-is_space.ensures in
     let off = split_off (take i xs) xs i c.loop-i-test.true here in
     let skip = split_off [] xs i c.loop-i-test.true here in
     record {
@@ -21,7 +21,7 @@ pub loop-i-preserved : goal.loop-i-preserved
 loop-i-preserved c =
     let xs = c.args.line.now in
     let i = c.loop-i.i in
-    let on = split_on (take i xs) xs i c.loop-i-test.true (sym c.if-is-space.ensures) in
+    let on = split_on (take i xs) xs i c.loop-i-test.true (sym c.if-is_space.ensures) in
     ap (λ w. split w (drop (i + 1) xs)) (take_more xs i 0 c.loop-i-test.true) ∙ (sym on ∙ c.loop-i.invariant)
 
 pub returns : goal.returns

@@ -6,12 +6,12 @@ use Rattle.words.specs.Table.{sizes, field_words}
 use Rattle.words.proofs.Rows.{spaced_step}
 use Rattle.words.proofs.turns.write_fields.Goals as goal
 
-pub write-field-requires : goal.write-field-requires
-write-field-requires c =
+pub write_field-requires : goal.write_field-requires
+write_field-requires c =
     let more = at_drop_more sizes c.args.fields.now c.loop-field.field-index Byte c.loop-field-test.true in omega arith
 
-pub split-at-requires : goal.split-at-requires
-split-at-requires c =
+pub split_at-requires : goal.split_at-requires
+split_at-requires c =
     let more = at_drop_more sizes c.args.fields.now c.loop-field.field-index Byte c.loop-field-test.true in omega arith
 
 pub loop-field-preserved : goal.loop-field-preserved
@@ -20,10 +20,10 @@ loop-field-preserved c =
     let i = c.loop-field.field-index in
     let rest = c.loop-field.rest.now in
     let more = at_drop_more sizes fs i Byte c.loop-field-test.true in
-    let after = c.split-at.ensures.back ∙ ap (λ n. drop n rest) c.size.ensures in (
+    let after = c.split_at.ensures.back ∙ ap (λ n. drop n rest) c.size.ensures in (
       omega arith,
-      spaced_step fs i Byte (vec_items c.loop-field.out) (vec_items c.push.new.self) (vec_items c.write-field.new.out) rest _
-          c.loop-field-test.true c.in-ok-push.ensures.items c.in-ok-write-field.ensures after
+      spaced_step fs i Byte (vec_items c.loop-field.out) (vec_items c.push.new.self) (vec_items c.write_field.new.out) rest _
+          c.loop-field-test.true c.in_ok-push.ensures.items c.in_ok-write_field.ensures after
           ∙ c.loop-field.invariant.1,
     )
 

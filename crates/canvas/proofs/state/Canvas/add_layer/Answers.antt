@@ -16,11 +16,11 @@ invariant-of-self c =
     let ls = s.layers in
     let new = fresh (get_or ls n no_entry).plane in
     let long = length-set ls n new ∙ s.full in
-    let own = own_lowered (s.active + 1) n (set ls n new) _ (omega arith) (omega arith) long c.lower-entry.ensures (own_set ls n new (omega arith) refl (s.planes, s.distinct)) in
-    (s.sized, (c.lower-entry.ensures.long ∙ long, ((omega arith, omega arith), (own.0, (own.1, tt)))))
+    let own = own_lowered (s.active + 1) n (set ls n new) _ (omega arith) (omega arith) long c.lower_entry.ensures (own_set ls n new (omega arith) refl (s.planes, s.distinct)) in
+    (s.sized, (c.lower_entry.ensures.long ∙ long, ((omega arith, omega arith), (own.0, (own.1, tt)))))
 
 pub returns : goal.returns
 returns c =
-    added c.args.self.now _ c.args.tiles.now c.set-pixels.new.bytes (omega arith)
-    (record { wide_is = refl; high_is = refl; count_is = refl; active_is = refl; entries = c.lower-entry.ensures })
-    (subst₂ (λ a m. PixelsTo (λ k. clear) a m c.args.tiles.now c.set-pixels.new.bytes) c.plane-of.ensures.is c.area-n.ensures.is c.set-pixels.ensures)
+    added c.args.self.now _ c.args.tiles.now c.set_pixels.new.bytes (omega arith)
+    (record { wide_is = refl; high_is = refl; count_is = refl; active_is = refl; entries = c.lower_entry.ensures })
+    (subst₂ (λ a m. PixelsTo (λ k. clear) a m c.args.tiles.now c.set_pixels.new.bytes) c.plane_of.ensures.is c.area-n.ensures.is c.set_pixels.ensures)

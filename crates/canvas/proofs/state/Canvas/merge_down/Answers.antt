@@ -5,15 +5,15 @@ use Rattle.canvas.proofs.Views.{two_planes}
 use Rattle.canvas.proofs.state.Canvas.merge_down.Goals as goal
 
 -- the planes of two layers lie apart
-pub merge-pixels-requires : goal.merge-pixels-requires
-merge-pixels-requires c =
+pub merge_pixels-requires : goal.merge_pixels-requires
+merge_pixels-requires c =
     let s = c.args.self.now in
     let n = s.wide * s.high in
     let below = c.in-Some.below in
     let one = c.in-Some.ensures in
     let other : (get_or s.layers below no_entry).plane ≢ (get_or s.layers s.active no_entry).plane
     = λ e. let same : below ≡ s.active = s.distinct (below, s.active, no_entry) (omega arith, omega arith, e) in omega arith in
-    let apart : (c.plane-of-at.result + 4 * c.area-n.result ≤ c.plane-of-from.result) ⊎ (c.plane-of-from.result + 4 * c.area-n.result ≤ c.plane-of-at.result)
+    let apart : (c.plane_of-at.result + 4 * c.area-n.result ≤ c.plane_of-from.result) ⊎ (c.plane_of-from.result + 4 * c.area-n.result ≤ c.plane_of-at.result)
     = elim (two_planes n (get_or s.layers below no_entry).plane (get_or s.layers s.active no_entry).plane other) [ inl l ↦ inl (omega arith) | inr l ↦ inr (omega arith) ] in
     (omega arith, (omega arith, apart))
 
@@ -22,5 +22,5 @@ returns-in-default c = not_merged c.args.self.now c.args.tiles.now c.in-default.
 
 pub returns : goal.returns
 returns c =
-    merged_down c.args.self.now _ _ _ c.in-Some.below c.area-n.result c.plane-of-at.result c.plane-of-from.result c.in-Some.ensures c.area-n.ensures.is c.plane-of-at.ensures.is
-    c.plane-of-from.ensures.is c.take-out.ensures c.merge-pixels.ensures
+    merged_down c.args.self.now _ _ _ c.in-Some.below c.area-n.result c.plane_of-at.result c.plane_of-from.result c.in-Some.ensures c.area-n.ensures.is c.plane_of-at.ensures.is
+    c.plane_of-from.ensures.is c.take_out.ensures c.merge_pixels.ensures

@@ -9,8 +9,8 @@ returns-in-default c = λ xs. not_raised c.args.self.now xs c.in-default.ensures
 pub invariant-of-self : goal.invariant-of-self
 invariant-of-self c =
     let s = c.args.self.now in
-    let own = own_raised s.active _ s.layers _ (omega arith) (omega arith) s.full c.raise-entry.ensures (s.planes, s.distinct) in
-    (s.sized, (c.raise-entry.ensures.long ∙ s.full, ((omega arith, omega arith), (own.0, (own.1, tt)))))
+    let own = own_raised s.active _ s.layers _ (omega arith) (omega arith) s.full c.raise_entry.ensures (s.planes, s.distinct) in
+    (s.sized, (c.raise_entry.ensures.long ∙ s.full, ((omega arith, omega arith), (own.0, (own.1, tt)))))
 
 pub returns : goal.returns
-returns c = raised c.args.self.now _ _ c.in-Some.ensures.0 (record { wide_is = refl; high_is = refl; count_is = refl; active_is = refl; entries = c.raise-entry.ensures }) c.in-Some.ensures.1
+returns c = raised c.args.self.now _ _ c.in-Some.ensures.0 (record { wide_is = refl; high_is = refl; count_is = refl; active_is = refl; entries = c.raise_entry.ensures }) c.in-Some.ensures.1

@@ -16,30 +16,30 @@ use Rattle.reference.proofs.state.Engine.add.Goals as goal
 good_of : (s : Engine) → All (Good (vec_items s.bytes)) (vec_items s.edits)
 good_of s = all_good (vec_items s.bytes) (vec_items s.edits) s.kinds s.reaches s.fit
 
-pub returns-in-err-extend-from-slice : goal.returns-in-err-extend-from-slice
-returns-in-err-extend-from-slice c =
+pub returns-in_err-extend_from_slice : goal.returns-in_err-extend_from_slice
+returns-in_err-extend_from_slice c =
     let s = c.args.self.now in
     not_added _ _ _ _ c.from-residual.ensures.0
-    (record { same_wide = refl; same_high = refl; same_taken = refl; history_is = ap (λ b. history_of b (vec_items s.edits) s.done) c.in-err-extend-from-slice.ensures.items })
+    (record { same_wide = refl; same_high = refl; same_taken = refl; history_is = ap (λ b. history_of b (vec_items s.edits) s.done) c.in_err-extend_from_slice.ensures.items })
 
 pub invariant-of-self-in-Break·-branch-2 : goal.invariant-of-self-in-Break·-branch-2
 invariant-of-self-in-Break·-branch-2 c =
     let s = c.args.self.now in
-    let bytes = c.in-ok-extend-from-slice.ensures.items in
-    let edits = c.in-err-put-behind.ensures.items in
-    let good : All (Good (vec_items c.extend-from-slice.new.self)) (vec_items c.put-behind.new.edits)
+    let bytes = c.in_ok-extend_from_slice.ensures.items in
+    let edits = c.in_err-put_behind.ensures.items in
+    let good : All (Good (vec_items c.extend_from_slice.new.self)) (vec_items c.put_behind.new.edits)
     = subst₂ (λ b e. All (Good b) e) (sym bytes) (sym edits) (all_grow (vec_items s.bytes) c.args.turn.now (vec_items s.edits) (good_of s)) in
-    (s.sized, ((omega (arith, s.counted, c.in-err-put-behind.ensures.len), omega (arith, s.counted, c.in-err-put-behind.ensures.len), s.counted.2), (good_built _ _ good, (good_reach _ _ good, (good_fits _ _ good, tt)))))
+    (s.sized, ((omega (arith, s.counted, c.in_err-put_behind.ensures.len), omega (arith, s.counted, c.in_err-put_behind.ensures.len), s.counted.2), (good_built _ _ good, (good_reach _ _ good, (good_fits _ _ good, tt)))))
 
-pub returns-in-err-put-behind : goal.returns-in-err-put-behind
-returns-in-err-put-behind c =
+pub returns-in_err-put_behind : goal.returns-in_err-put_behind
+returns-in_err-put_behind c =
     let s = c.args.self.now in
-    not_added _ _ _ _ c.from-residual-in-err-put-behind.ensures.0
+    not_added _ _ _ _ c.from-residual-in_err-put_behind.ensures.0
     (record {
       same_wide = refl;
       same_high = refl;
       same_taken = refl;
-      history_is = ap₂ (λ b e. history_of b e s.done) c.in-ok-extend-from-slice.ensures.items c.in-err-put-behind.ensures.items
+      history_is = ap₂ (λ b e. history_of b e s.done) c.in_ok-extend_from_slice.ensures.items c.in_err-put_behind.ensures.items
           ∙ history_grows (vec_items s.bytes) c.args.turn.now (vec_items s.edits) s.done (good_of s);
     })
 
@@ -53,26 +53,26 @@ invariant-of-self-2 c =
     let s = c.args.self.now in
     let bs = vec_items s.bytes in
     let turn = c.args.turn.now in
-    let x = c.edit-at-edit.result in
-    let bytes = c.in-ok-extend-from-slice.ensures.items in
-    let edits = c.in-ok-put-behind.ensures.items in
-    let is = c.as-slice.ensures.value ∙ bytes in
-    let means = new-means bs turn c.as-slice.result.now c.len-at.result x is (c.len-at.ensures ∙ s.bytes.ok.0) c.edit-at-edit.ensures.is c.requires.is.0 c.requires.is.1 in
+    let x = c.edit_at-edit.result in
+    let bytes = c.in_ok-extend_from_slice.ensures.items in
+    let edits = c.in_ok-put_behind.ensures.items in
+    let is = c.as_slice.ensures.value ∙ bytes in
+    let means = new-means bs turn c.as_slice.result.now c.len-at.result x is (c.len-at.ensures ∙ s.bytes.ok.0) c.edit_at-edit.ensures.is c.requires.is.0 c.requires.is.1 in
     let new : Good (bs ++ turn) x.0
-    = new_good (bs ++ turn) x.0 c.requires.is.0 (subst (λ (b : List ℕ). EditGood b x.0) is c.edit-at-edit.ensures.good) means c.requires.is.1.is_built in
-    let good : All (Good (vec_items c.extend-from-slice.new.self)) (vec_items c.put-behind.new.edits)
+    = new_good (bs ++ turn) x.0 c.requires.is.0 (subst (λ (b : List ℕ). EditGood b x.0) is c.edit_at-edit.ensures.good) means c.requires.is.1.is_built in
+    let good : All (Good (vec_items c.extend_from_slice.new.self)) (vec_items c.put_behind.new.edits)
     = subst₂ (λ b e. All (Good b) e) (sym bytes) (sym edits) (all_put bs turn (vec_items s.edits) s.done x.0 (good_of s) new) in
-    (s.sized, ((omega (arith, c.in-ok-put-behind.ensures.len), omega (arith, s.counted, c.in-ok-put-behind.ensures.len), omega (arith, c.requires.few)), (good_built _ _ good, (good_reach _ _ good, (good_fits _ _ good, tt)))))
+    (s.sized, ((omega (arith, c.in_ok-put_behind.ensures.len), omega (arith, s.counted, c.in_ok-put_behind.ensures.len), omega (arith, c.requires.few)), (good_built _ _ good, (good_reach _ _ good, (good_fits _ _ good, tt)))))
 
 pub returns : goal.returns
 returns c = λ e b.
     let s = c.args.self.now in
     let bs = vec_items s.bytes in
     let turn = c.args.turn.now in
-    let x = c.edit-at-edit.result in
-    let bytes = c.in-ok-extend-from-slice.ensures.items in
-    let edits = c.in-ok-put-behind.ensures.items in
-    let means = new-means bs turn c.as-slice.result.now c.len-at.result x (c.as-slice.ensures.value ∙ bytes) (c.len-at.ensures ∙ s.bytes.ok.0) c.edit-at-edit.ensures.is e b in
+    let x = c.edit_at-edit.result in
+    let bytes = c.in_ok-extend_from_slice.ensures.items in
+    let edits = c.in_ok-put_behind.ensures.items in
+    let means = new-means bs turn c.as_slice.result.now c.len-at.result x (c.as_slice.ensures.value ∙ bytes) (c.len-at.ensures ∙ s.bytes.ok.0) c.edit_at-edit.ensures.is e b in
     record {
       same_wide = refl;
       same_high = refl;

@@ -6,19 +6,19 @@ use Rattle.reference.proofs.Keeping.{all_held}
 use Rattle.reference.proofs.Texts.{text_pieces}
 use Rattle.reference.proofs.state.Engine.edits_text.Goals as goal
 
-pub write-lines-requires : goal.write-lines-requires
-write-lines-requires c =
+pub write_lines-requires : goal.write_lines-requires
+write_lines-requires c =
     let s = c.args.self.now in
-    subst₂ (λ b es. All (Held b) es) (sym c.as-slice-source.ensures.value) (sym (c.split-at.ensures.front ∙ ap (take s.done) c.as-slice.ensures.value)) (All-take _ s.done (vec_items s.edits) (all_held s))
+    subst₂ (λ b es. All (Held b) es) (sym c.as_slice-source.ensures.value) (sym (c.split_at.ensures.front ∙ ap (take s.done) c.as_slice.ensures.value)) (All-take _ s.done (vec_items s.edits) (all_held s))
 
-pub write-lines-requires-2 : goal.write-lines-requires-2
-write-lines-requires-2 c =
+pub write_lines-requires-2 : goal.write_lines-requires-2
+write_lines-requires-2 c =
     let s = c.args.self.now in
-    subst₂ (λ b es. All (Held b) es) (sym c.as-slice-source.ensures.value) (sym (c.split-at.ensures.back ∙ ap (drop s.done) c.as-slice.ensures.value)) (All-drop _ s.done (vec_items s.edits) (all_held s))
+    subst₂ (λ b es. All (Held b) es) (sym c.as_slice-source.ensures.value) (sym (c.split_at.ensures.back ∙ ap (drop s.done) c.as_slice.ensures.value)) (All-drop _ s.done (vec_items s.edits) (all_held s))
 
 pub returns : goal.returns
 returns c =
     let s = c.args.self.now in
-    text_pieces s (vec_items c.new-out.result) (vec_items c.write-lines.new.out) (vec_items c.extend-from-slice.new.self) (vec_items c.write-lines-2.new.out) c.as-slice-source.result.now c.split-at.result.0.now c.split-at.result.1.now
-    c.new-out.ensures.items c.as-slice-source.ensures.value (c.split-at.ensures.front ∙ ap (take s.done) c.as-slice.ensures.value) (c.split-at.ensures.back ∙ ap (drop s.done) c.as-slice.ensures.value)
-    c.in-ok-write-lines.ensures c.in-ok-extend-from-slice.ensures.items c.in-ok-write-lines-2.ensures
+    text_pieces s (vec_items c.new-out.result) (vec_items c.write_lines.new.out) (vec_items c.extend_from_slice.new.self) (vec_items c.write_lines-2.new.out) c.as_slice-source.result.now c.split_at.result.0.now c.split_at.result.1.now
+    c.new-out.ensures.items c.as_slice-source.ensures.value (c.split_at.ensures.front ∙ ap (take s.done) c.as_slice.ensures.value) (c.split_at.ensures.back ∙ ap (drop s.done) c.as_slice.ensures.value)
+    c.in_ok-write_lines.ensures c.in_ok-extend_from_slice.ensures.items c.in_ok-write_lines-2.ensures

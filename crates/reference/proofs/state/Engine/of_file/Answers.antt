@@ -11,7 +11,7 @@ invariant-of-result c =
     let f = c.args.head in
     let es = vec_items c.in-Ok.edits in
     let taken = c.requires.1 in
-    let so = subst (λ (b : List ℕ). Listed b (f.done + f.undone) es) c.as-slice.ensures.value c.in-Ok.ensures in
+    let so = subst (λ (b : List ℕ). Listed b (f.done + f.undone) es) c.as_slice.ensures.value c.in-Ok.ensures in
     let good = all_opened bs c.requires.0 f taken es so in
     let long : length es ≡ f.done + f.undone = all_long bs c.requires.0 f taken es so in
     let size = c.in-Ok.edits.ok.0 in (
@@ -24,7 +24,7 @@ returns-in-Ok c =
     let bs = vec_items c.args.file in
     let f = c.args.head in
     let es = vec_items c.in-Ok.edits in
-    let so = subst (λ (b : List ℕ). Listed b (f.done + f.undone) es) c.as-slice.ensures.value c.in-Ok.ensures in
+    let so = subst (λ (b : List ℕ). Listed b (f.done + f.undone) es) c.as_slice.ensures.value c.in-Ok.ensures in
     record {
       wide_is = refl;
       high_is = refl;

@@ -20,14 +20,14 @@ replay-requires c =
     let built : All (Built bs) (take (s.done - 0) es)
     = All-take (Built bs) (s.done - 0) es (All-weaker (Good bs) (Built bs) (λ e g. g.1) es (all_good bs es s.kinds s.reaches s.fit)) in (
       record { some_wide = s.sized.0; most_wide = s.sized.1; some_high = s.sized.2; most_high = s.sized.3; enough = omega (arith, c.area.ensures.is) },
-      subst₂ (λ b e. All (Built b) (take (s.done - 0) e)) (sym c.as-slice.ensures.value) (sym c.as-slice-edits.ensures.value) built,
+      subst₂ (λ b e. All (Built b) (take (s.done - 0) e)) (sym c.as_slice.ensures.value) (sym c.as_slice-edits.ensures.value) built,
     )
 
 pub returns : goal.returns
 returns c =
     let s = c.args.self.now in
-    let same : meanings c.as-slice.result.now (take (s.done - 0) c.as-slice-edits.result.now) ≡ in_order (in_order (meanings (vec_items s.bytes) (take s.done (vec_items s.edits))) []) []
-    = ap₂ (λ b e. meanings b (take (s.done - 0) e)) c.as-slice.ensures.value c.as-slice-edits.ensures.value
+    let same : meanings c.as_slice.result.now (take (s.done - 0) c.as_slice-edits.result.now) ≡ in_order (in_order (meanings (vec_items s.bytes) (take s.done (vec_items s.edits))) []) []
+    = ap₂ (λ b e. meanings b (take (s.done - 0) e)) c.as_slice.ensures.value c.as_slice-edits.ensures.value
     ∙ ap (λ n. meanings (vec_items s.bytes) (take n (vec_items s.edits))) (sub-zero s.done)
     ∙ sym (done_in_order (meanings (vec_items s.bytes) (take s.done (vec_items s.edits)))) in (
       omega (arith, c.area.ensures.is),
