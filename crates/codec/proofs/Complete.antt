@@ -1,5 +1,5 @@
 -- Where the writing of an edit that fits stands, that edit is read.
-use Rattle.std.proofs.Common.{◌≡◌, ℕ, zero, suc, ◌+◌, ◌-◌, ◌*◌, ◌/◌, ◌%◌, ◌<◌, ◌≤◌, Bool, true, false, cond, eqb, ltb, leb, List, [], ◌∷◌, ◌++◌, length, get_or, take, drop, Ok, Err, sym, refl, ap, ◌∙◌, subst, add-zero, arith}
+use Rattle.std.proofs.Common.{◌≡◌, ℕ, ◌+◌, ◌*◌, ◌/◌, ◌%◌, ◌≤◌, Bool, true, false, eqb, List, [], ◌∷◌, ◌++◌, length, get_or, take, drop, Ok, sym, refl, ap, ◌∙◌, add-zero, arith}
 use Rattle.std.proofs.lemmas.List.{drop-drop, get_or-drop, length-append, length-drop, take_at}
 use Rattle.std.proofs.lemmas.Bool.{le-leb, le-ltb, cond-true, cond-false}
 use Rattle.pixel.specs.declared.Pixel.{Pixel}
@@ -7,12 +7,11 @@ use Rattle.page.specs.Edits as page
 use Rattle.page.specs.Filters as filters
 use Rattle.page.specs.Edits.{add_layer, drop_layer, choose_layer, raise_layer, set_mode, set_opacity, set_visible, merge_down, select_all, select_rect, select_similar, select_inverse, fill, stroke, apply_filter, copy, paste}
 use Rattle.page.specs.Filters.{invert, curve, box_blur, edges}
-use Rattle.pixel.specs.Pixels.{PixelFits}
-use Rattle.page.specs.Fits.{Fits, FilterFits}
+use Rattle.page.specs.Fits.{FilterFits}
 use Rattle.pixel.specs.Bytes.{pixel_at}
 use Rattle.codec.specs.Written.{written, two, points, four, flag, filter_written}
 use Rattle.codec.specs.Meaning.{two_at, edit_of, points_at, filter_of}
-use Rattle.codec.specs.Scan.{end_of, edit_at, edit_by, body_end, heads, need, End, filter_end_by, filter_by, stroke_end}
+use Rattle.codec.specs.Scan.{end_of, edit_at, edit_by, body_end, heads, filter_end_by, filter_by}
 use Rattle.codec.specs.Laws.{WrittenRead}
 
 module _ (bs : List ℕ) where

@@ -1,6 +1,6 @@
 -- Files: what the answers of their reader mean.
-use Rattle.std.proofs.Common.{◌≡◌, ℕ, zero, suc, ◌+◌, ◌-◌, ◌*◌, ◌/◌, ◌%◌, ◌<◌, ◌≤◌, Bool, true, false, cond, eqb, ltb, leb, ◌⊎◌, List, [], ◌∷◌, ◌++◌, length, get_or, take, drop, Some, None, Ok, Err, Option, Result, sym, refl, ap, ◌∙◌, subst, inl, inr, arith, MatchResult}
-use Rattle.std.proofs.lemmas.List.{append-nil, append_assoc, drop_all, drop_at, length-append}
+use Rattle.std.proofs.Common.{◌≡◌, ℕ, zero, suc, ◌+◌, ◌*◌, ◌/◌, ◌%◌, ◌<◌, ◌≤◌, cond, eqb, ltb, leb, ◌⊎◌, List, [], ◌∷◌, ◌++◌, length, get_or, drop, None, Ok, Err, Option, Result, sym, refl, ap, ◌∙◌, subst, inl, inr, arith, MatchResult}
+use Rattle.std.proofs.lemmas.List.{append-nil, drop_all, drop_at, length-append}
 use Rattle.std.proofs.lemmas.Bool.{ltb-true, ltb-false, leb-true, le-leb, le-ltb, eq-eqb, eqb-true, eqb-false, ne_eqb, cond_both, cond-true, cond-false}
 use Rattle.std.specs.List.{AllByRecursion as All}
 use Rattle.page.specs.Edits as page
@@ -13,11 +13,11 @@ use Rattle.codec.specs.Meaning.{two_at, Bytes}
 use Rattle.codec.specs.Refusals.{number}
 use Rattle.codec.specs.Scan.{End, need}
 use Rattle.codec.specs.Read.{unless}
-use Rattle.codec.specs.Files.{long, all_written, file_written, IsFile, Built, Enough, done_of, undone_of, after_edits, on_ok, edits_end, four_at, letter, sized, short_of, head_end, body_from, file_at, whole_file, read_file}
-use Rattle.codec.specs.FileLaws.{FileTaken, FileRefused, FileRead, FileWrittenRead}
+use Rattle.codec.specs.Files.{long, all_written, IsFile, Built, Enough, done_of, undone_of, after_edits, on_ok, edits_end, four_at, letter, sized, short_of, head_end, body_from, file_at, whole_file, read_file}
+use Rattle.codec.specs.FileLaws.{FileTaken, FileRead, FileWrittenRead}
 use Rattle.codec.proofs.Sound.{same_ok, of_need, of_stop, kind_then, two_then, two_lt}
 use Rattle.codec.proofs.Complete.{byte_is, two_is, on}
-use Rattle.codec.proofs.Means.{not_both, of_unless}
+use Rattle.codec.proofs.Means.{of_unless}
 use Rattle.codec.proofs.Rows.{ok, of_some, of_on, length_from, edits_read, from_written, Scanned, edits_written}
 
 one_le : (n : ℕ) → (n ≡ 0 → ⊥) → 1 ≤ n

@@ -1,14 +1,13 @@
 -- An edit means the same when bytes come after those that hold its points or numbers. Assumes nothing.
-use Rattle.std.proofs.Common.{◌≡◌, ℕ, zero, suc, ◌+◌, ◌*◌, ◌<◌, ◌≤◌, List, [], ◌∷◌, ◌++◌, length, get_or, take, drop, refl, ap, ◌∙◌, ap₂, arith}
+use Rattle.std.proofs.Common.{◌≡◌, ℕ, zero, suc, ◌+◌, ◌*◌, ◌≤◌, List, ◌∷◌, ◌++◌, length, take, drop, refl, ap, ◌∙◌, ap₂, arith}
 use Rattle.std.proofs.lemmas.List.{get_or_append_left, take-append-le, drop-append-le, length-drop}
 use Rattle.page.specs.Edits.{stroke, apply_filter}
 use Rattle.page.specs.Filters.{curve}
 use Rattle.codec.specs.declared.edits.Edit.{Edit}
 use Rattle.codec.specs.declared.edits.Edit.TheVariants.{AddLayer, DropLayer, ChooseLayer, RaiseLayer, SetMode, SetOpacity, SetVisible, MergeDown, SelectAll, SelectRect, SelectSimilar, SelectInverse, Fill, Stroke, ApplyFilter, Copy, Paste}
-use Rattle.codec.specs.declared.edits.Filter.{Filter}
 use Rattle.codec.specs.declared.edits.Filter.TheVariants.{Invert, Curve, BoxBlur, Edges}
-use Rattle.codec.specs.Meaning.{two_at, points_at, filter_of, edit_of, Held, FilterHeld}
-use Rattle.codec.specs.Reach.{reach, filter_reach}
+use Rattle.codec.specs.Meaning.{two_at, points_at, edit_of, Held}
+use Rattle.codec.specs.Reach.{reach}
 
 module _ (bs more : List ℕ) where
   two_grows : (i : ℕ) → i + 2 ≤ length bs → two_at (bs ++ more) i ≡ two_at bs i

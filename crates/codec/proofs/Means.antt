@@ -1,25 +1,24 @@
 -- What the readers' answers mean, from the two laws.
-use Rattle.std.proofs.Common.{◌≡◌, ℕ, zero, suc, ◌+◌, ◌<◌, ◌≤◌, Bool, true, false, cond, eqb, ltb, leb, ◌⊎◌, List, [], ◌∷◌, ◌++◌, length, get_or, take, drop, Some, None, Ok, Err, Option, Result, sym, refl, ap, ◌∙◌, subst, inl, inr, zero-add, arith, MatchResult}
+use Rattle.std.proofs.Common.{◌≡◌, ℕ, suc, ◌+◌, ◌<◌, ◌≤◌, true, false, cond, eqb, ltb, leb, List, [], ◌∷◌, ◌++◌, length, get_or, drop, Some, None, Ok, Err, Option, Result, sym, refl, ap, ◌∙◌, subst, inl, inr, zero-add, arith, MatchResult}
 use Rattle.std.proofs.lemmas.List.{append-nil, drop_all}
-use Rattle.std.proofs.lemmas.Bool.{ltb-true, ltb-false, leb-true, eqb-true, eqb-false, leb-false, cond_both, cond-true, cond-false, ne_eqb, le-leb, le-ltb, cases_Bool}
+use Rattle.std.proofs.lemmas.Bool.{ltb-true, ltb-false, eqb-true, eqb-false, leb-false, cond_both, cond-true, cond-false, ne_eqb, le-leb, le-ltb, cases_Bool}
 use Rattle.page.specs.Edits as page
 use Rattle.page.specs.Edits.{add_layer, drop_layer, choose_layer, raise_layer, set_mode, set_opacity, set_visible, merge_down, select_all, select_rect, select_similar, select_inverse, fill, stroke, apply_filter, copy, paste}
 use Rattle.page.specs.History as history
 use Rattle.page.specs.History.{does, undo, redo}
 use Rattle.page.specs.Fits.{Fits, kind}
-use Rattle.codec.specs.declared.edits.Edit.{Edit}
 use Rattle.codec.specs.declared.edits.Turn.{Turn}
 use Rattle.codec.specs.declared.edits.Turn.TheVariants.{Does, Undo, Redo}
 use Rattle.codec.specs.declared.edits.Refusal.{Refusal}
 use Rattle.codec.specs.declared.edits.Refusal.TheVariants.{Ends, NoKind}
 use Rattle.codec.specs.Kinds.{built}
 use Rattle.codec.specs.Written.{written, written_turn}
-use Rattle.codec.specs.Meaning.{edit_of, turn_of, Held, TurnHeld, Bytes}
+use Rattle.codec.specs.Meaning.{edit_of, turn_of, TurnHeld, Bytes}
 use Rattle.codec.specs.Scan.{end_of, edit_at, End}
-use Rattle.codec.specs.Read.{unless, taken_end, whole_turn, whole_edit, turn_by, read_turn, edit_and_end, edit_or_none}
-use Rattle.codec.specs.Laws.{EditGood, TurnFits, TurnBuilt, TurnUnbuilt, Taken, Refused, TurnRead, TurnWrittenRead}
-use Rattle.codec.proofs.Sound.{reads_written, headed, same_ok, of_need}
-use Rattle.codec.proofs.Complete.{written_read, room, byte_is}
+use Rattle.codec.specs.Read.{unless, taken_end, whole_turn, whole_edit, read_turn, edit_and_end, edit_or_none}
+use Rattle.codec.specs.Laws.{EditGood, TurnFits, TurnBuilt, TurnUnbuilt, Refused, TurnRead}
+use Rattle.codec.proofs.Sound.{reads_written, same_ok, of_need}
+use Rattle.codec.proofs.Complete.{written_read}
 
 -- an end that is refused is not one that is found
 pub not_both : (f : Refusal) (n : ℕ) → ◌≡◌ {A = End} (Err f) (Ok n) → ⊥

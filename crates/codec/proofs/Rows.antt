@@ -1,7 +1,7 @@
 -- Edits one after the other: the scan over them, and what its answers mean.
-use Rattle.std.proofs.Common.{◌≡◌, ℕ, zero, suc, ◌+◌, ◌-◌, ◌*◌, ◌<◌, ◌≤◌, Bool, true, false, cond, eqb, ltb, leb, ◌⊎◌, List, [], ◌∷◌, ◌++◌, length, get_or, take, drop, Some, None, Ok, Err, Option, Result, sym, refl, ap, ◌∙◌, subst, inl, inr, add-zero, suc-add, zero-add, arith, MatchResult}
+use Rattle.std.proofs.Common.{◌≡◌, ℕ, zero, suc, ◌+◌, ◌-◌, ◌*◌, ◌<◌, ◌≤◌, Bool, true, false, cond, ltb, leb, ◌⊎◌, List, [], ◌∷◌, ◌++◌, length, get_or, drop, Some, None, Ok, Err, Option, sym, refl, ap, ◌∙◌, subst, inl, inr, add-zero, suc-add, zero-add, arith, MatchResult}
 use Rattle.std.proofs.lemmas.List.{append_assoc, drop_at, get_or-drop, length-append}
-use Rattle.std.proofs.lemmas.Bool.{ltb-true, ltb-false, leb-true, leb-false, le-leb, cond_both, cond-true, cond-false, cases_Bool, both_ways}
+use Rattle.std.proofs.lemmas.Bool.{ltb-true, ltb-false, leb-true, leb-false, cond_both, both_ways}
 use Rattle.std.specs.List.{AllByRecursion as All}
 use Rattle.page.specs.Edits as page
 use Rattle.page.specs.Fits.{Fits, kind}
@@ -16,7 +16,7 @@ use Rattle.codec.specs.Read.{unless, taken_end, edit_and_end, edit_or_none}
 use Rattle.codec.specs.Files.{all_written, Built, edits_from, after_edits, against_edit, on_ok, edits_end}
 use Rattle.codec.specs.FileLaws.{EditsInOrder}
 use Rattle.codec.proofs.Sound.{reads_written, same_ok}
-use Rattle.codec.proofs.Complete.{written_read, byte_is, on, room}
+use Rattle.codec.proofs.Complete.{written_read, on, room}
 use Rattle.codec.proofs.Means.{not_both, kind_first, written_long, of_taken}
 
 abbrev pub ok : ℕ → End

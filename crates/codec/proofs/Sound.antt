@@ -1,14 +1,14 @@
 -- Where an edit is read, its writing stands.
-use Rattle.std.proofs.Common.{◌≡◌, ℕ, zero, suc, ◌+◌, ◌-◌, ◌*◌, ◌/◌, ◌%◌, ◌<◌, ◌≤◌, Bool, true, false, cond, eqb, ltb, leb, ◌⊎◌, List, [], ◌∷◌, ◌++◌, length, get_or, take, drop, Ok, Err, Result, sym, refl, ap, ◌∙◌, subst, inl, inr, arith}
+use Rattle.std.proofs.Common.{◌≡◌, ℕ, zero, suc, ◌+◌, ◌*◌, ◌/◌, ◌%◌, ◌<◌, ◌≤◌, Bool, true, false, cond, eqb, List, ◌∷◌, ◌++◌, length, get_or, take, drop, Ok, Err, sym, refl, ap, ◌∙◌, inl, inr, arith}
 use Rattle.std.proofs.lemmas.List.{drop_more, take-append-drop, drop-drop, get_or-take, get_or-drop, get_or_past, length-take, length-take-le, length-drop}
-use Rattle.std.proofs.lemmas.Bool.{ltb-true, ltb-false, leb-true, leb-false, cases_lt}
+use Rattle.std.proofs.lemmas.Bool.{ltb-false, leb-true, cases_lt}
 use Rattle.codec.specs.declared.edits.Refusal.{Refusal}
 use Rattle.pixel.specs.Pixels.{PixelFits}
 use Rattle.page.specs.Fits.{Fits, FilterFits}
 use Rattle.pixel.specs.Bytes.{pixel_at}
 use Rattle.codec.specs.Written.{written, two, points, four, flag, filter_written}
 use Rattle.codec.specs.Meaning.{two_at, edit_of, points_at, filter_of, Held, FilterHeld, Bytes}
-use Rattle.codec.specs.Scan.{end_of, edit_at, edit_by, body_end, heads, need, End, Headed, filter_end, filter_end_by, filter_by}
+use Rattle.codec.specs.Scan.{end_of, edit_by, body_end, heads, End, Headed, filter_end_by, filter_by}
 use Rattle.codec.specs.Laws.{ReadsWritten}
 
 -- what an Ok says of the tests before it

@@ -1,5 +1,5 @@
 -- Which refusals the scan gives, and where.
-use Rattle.std.proofs.Common.{◌≡◌, ℕ, zero, suc, ◌+◌, ◌*◌, ◌≤◌, Bool, true, false, cond, eqb, ltb, leb, ◌⊎◌, List, length, get_or, IfErr, None, Ok, Err, Option, Result, refl, inl, inr, arith}
+use Rattle.std.proofs.Common.{◌≡◌, ℕ, zero, suc, ◌+◌, ◌*◌, ◌≤◌, eqb, ltb, leb, ◌⊎◌, List, length, get_or, IfErr, None, Ok, Err, Option, Result, refl, inl, inr, arith}
 use Rattle.std.proofs.lemmas.Bool.{ltb-true, leb-true, eqb-true, cond_both}
 use Rattle.codec.specs.declared.edits.Turn.{Turn}
 use Rattle.codec.specs.declared.edits.Turn.TheVariants.{Does, Undo, Redo}
@@ -10,8 +10,8 @@ use Rattle.codec.specs.declared.file.Lengths.{Lengths}
 use Rattle.codec.specs.Kinds.{built}
 use Rattle.codec.specs.Meaning.{two_at}
 use Rattle.codec.specs.Refusals.{number, place}
-use Rattle.codec.specs.Scan.{End, need, heads, body_end, stroke_end, filter_end, flag_end, end_of, edit_at}
-use Rattle.codec.specs.Read.{unless, taken_end, whole_turn, whole_edit, read_turn}
+use Rattle.codec.specs.Scan.{End, need, heads, body_end, stroke_end, filter_end, end_of, edit_at}
+use Rattle.codec.specs.Read.{unless, taken_end, whole_turn, whole_edit}
 use Rattle.codec.specs.Laws.{TurnAnswered}
 use Rattle.codec.specs.Files.{against_edit, on_ok, edits_end, four_at, letter, sized, head_end, body_from, whole_file}
 use Rattle.codec.specs.FileLaws.{FileAnswered}

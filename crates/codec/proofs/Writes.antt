@@ -1,5 +1,5 @@
 -- What is put, piece after piece, is the writing of the edit.
-use Rattle.std.proofs.Common.{◌≡◌, ℕ, zero, suc, ◌+◌, ◌-◌, ◌*◌, ◌<◌, ◌≤◌, cond, List, [], ◌∷◌, ◌++◌, map, length, get_or, take, drop, is_ok, IfOk, Ok, Err, Result, sym, refl, ap, ◌∙◌, subst, arith}
+use Rattle.std.proofs.Common.{◌≡◌, ℕ, ◌+◌, ◌-◌, ◌*◌, ◌<◌, ◌≤◌, cond, List, [], ◌∷◌, ◌++◌, map, length, get_or, take, drop, is_ok, IfOk, Ok, Err, Result, sym, refl, ap, ◌∙◌, subst, arith}
 use Rattle.std.proofs.lemmas.List.{append_assoc, drop-drop, take_at, take-append-drop, drop_at, length-append, length-drop, length-map, length_push, length-take-le, flat_map_more, map-append, map_more}
 use Rattle.std.proofs.lemmas.Bool.{le-leb, cond-true}
 use Rattle.page.specs.Edits as page
@@ -10,7 +10,7 @@ use Rattle.page.specs.Fits.{Fits, FilterFits}
 use Rattle.codec.specs.declared.edits.Edit.{Edit}
 use Rattle.codec.specs.declared.edits.Edit.TheVariants.{AddLayer, DropLayer, ChooseLayer, RaiseLayer, SetMode, SetOpacity, SetVisible, MergeDown, SelectAll, SelectRect, SelectSimilar, SelectInverse, Fill, Stroke, ApplyFilter, Copy, Paste}
 use Rattle.codec.specs.declared.edits.Filter.TheVariants.{Invert, Curve, BoxBlur, Edges}
-use Rattle.codec.specs.Written.{written, filter_written, points, two, four}
+use Rattle.codec.specs.Written.{written, filter_written, points}
 use Rattle.codec.specs.Meaning.{edit_of, Bytes, points_at, Held}
 use Rattle.codec.specs.declared.edits.Refusal.{Refusal}
 use Rattle.std.specs.List.{flat_map}

@@ -1,5 +1,5 @@
 -- What reading and writing of files have to do with each other. Assumes nothing.
-use Rattle.std.specs.Prelude.{◌≡◌, ℕ, ◌+◌, ◌≤◌, ◌⊎◌, List, ◌++◌, length, IfErr, Ok, Result, MatchResult}
+use Rattle.std.specs.Prelude.{◌≡◌, ℕ, ◌+◌, ◌≤◌, ◌⊎◌, List, ◌++◌, length, IfErr, Result, MatchResult}
 use Rattle.std.specs.List.{AllByRecursion as All}
 use Rattle.page.specs.Edits as page
 use Rattle.codec.specs.declared.edits.Refusal.{Refusal}

@@ -1,5 +1,5 @@
 -- What reading and writing of edits and turns have to do with each other. Assumes nothing.
-use Rattle.std.specs.Prelude.{◌≡◌, ℕ, ◌+◌, ◌≤◌, true, false, ◌⊎◌, List, ◌++◌, length, drop, IfErr, Some, None, Ok, Err, Option, Result, MatchResult}
+use Rattle.std.specs.Prelude.{◌≡◌, ℕ, ◌+◌, ◌≤◌, true, false, ◌⊎◌, List, ◌++◌, length, drop, IfErr, Some, None, Ok, Option, Result, MatchResult}
 use Rattle.page.specs.Edits as page
 use Rattle.page.specs.History as history
 use Rattle.page.specs.History.{does, undo, redo}

@@ -14,14 +14,14 @@ made f = Err f
 pub returns-in_err-start : goal.returns-in_err-start
 unfolding made
 returns-in_err-start c =
-    let p = err_from_is_err_and c.from-residual.result c.from-residual.ensures.1 in
+    let p = err_from_is_err_and c.from_residual.result c.from_residual.ensures.1 in
     let s = at_start c.args.bytes.now c.args.lent _ c.in_err-start.field-0.0 (λ k. omega (arith, c.type_inv.bytes k)) (p.1 ∙ ap made p.2) c.in_err-start.ensures in
     record { scans = s.0; means = s.1 }
 
 pub returns-in_err-middle : goal.returns-in_err-middle
 unfolding made
 returns-in_err-middle c =
-    let p = err_from_is_err_and c.from-residual-in_err-middle.result c.from-residual-in_err-middle.ensures.1 in
+    let p = err_from_is_err_and c.from_residual-in_err-middle.result c.from_residual-in_err-middle.ensures.1 in
     let s = at_middle c.args.bytes.now c.args.lent (λ k. omega (arith, c.type_inv.bytes k)) c.in_ok-start.start c.four.result c.four-2.result
     c.in_ok-start.ensures c.four.ensures c.four-2.ensures _ c.in_err-middle.field-0.0 (p.1 ∙ ap made p.2) c.in_err-middle.ensures in
     record { scans = s.0; means = s.1 }
@@ -29,7 +29,7 @@ returns-in_err-middle c =
 pub returns-in_err-end : goal.returns-in_err-end
 unfolding made
 returns-in_err-end c =
-    let p = err_from_is_err_and c.from-residual-in_err-end.result c.from-residual-in_err-end.ensures.1 in
+    let p = err_from_is_err_and c.from_residual-in_err-end.result c.from_residual-in_err-end.ensures.1 in
     let s = at_end c.args.bytes.now c.args.lent (λ k. omega (arith, c.type_inv.bytes k)) c.in_ok-start.start c.four.result c.four-2.result
     c.in_ok-start.ensures c.four.ensures c.four-2.ensures _ (Err c.in_err-end.field-0.0) c.in_ok-middle.middle
     c.in_ok-middle.ensures c.in_err-end.ensures (p.1 ∙ ap made p.2) in

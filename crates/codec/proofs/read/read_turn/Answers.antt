@@ -1,10 +1,10 @@
-use Rattle.std.proofs.Common.{◌≡◌, Ok, Err, Result, sym, ap, ◌∙◌, arith}
+use Rattle.std.proofs.Common.{Err, Result, sym, ap, ◌∙◌, arith}
 use Rattle.std.proofs.lemmas.Result.{err_from_is_err_and}
 use Rattle.codec.specs.declared.edits.Edit.{Edit}
 use Rattle.codec.specs.declared.edits.Turn.{Turn}
 use Rattle.codec.specs.declared.edits.Turn.TheVariants.{Does}
 use Rattle.codec.specs.declared.edits.Refusal.{Refusal}
-use Rattle.codec.specs.Read.{turn_by, whole_edit, whole_turn, taken_end}
+use Rattle.codec.specs.Read.{turn_by, whole_edit, whole_turn}
 use Rattle.codec.proofs.Sound.{headed}
 use Rattle.codec.proofs.Means.{of_taken, read_turn_means, other_turn, no_turn}
 use Rattle.codec.proofs.read.read_turn.Goals as goal
@@ -32,7 +32,7 @@ edit_in-requires c =
 pub returns-in_err-end : goal.returns-in_err-end
 returns-in_err-end c =
     let bs = c.args.bytes.now in let against = c.args.against in
-    let p = err_from_is_err_and c.from-residual.result c.from-residual.ensures.1 in
+    let p = err_from_is_err_and c.from_residual.result c.from_residual.ensures.1 in
     let made : Refusal → Result Turn Refusal = λ x. Err x in
     let s = p.1 ∙ (ap made p.2 ∙ (ap (whole_edit bs) c.in_err-end.ensures ∙ sym (other_turn bs against c.if-kind-eq17.false c.if-kind-eq18.false))) in
     record { scans = s; means = read_turn_means bs against _ s (λ k. omega (arith, c.type_inv.bytes k)) }

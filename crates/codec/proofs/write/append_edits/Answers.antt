@@ -1,4 +1,4 @@
-use Rattle.std.proofs.Common.{◌≡◌, ◌++◌, map, vec_items, sym, ap, ◌∙◌}
+use Rattle.std.proofs.Common.{◌++◌, map, vec_items, sym, ap, ◌∙◌}
 use Rattle.std.proofs.ByRecursion.{All-get_or}
 use Rattle.std.proofs.lemmas.List.{append-nil, take_all}
 use Rattle.codec.specs.declared.edits.Edit.TheVariants.{AddLayer}

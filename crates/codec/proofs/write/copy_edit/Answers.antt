@@ -1,4 +1,4 @@
-use Rattle.std.proofs.Common.{◌≡◌, ℕ, ◌+◌, List, length, ap, ◌∙◌, arith}
+use Rattle.std.proofs.Common.{ℕ, ◌+◌, List, length, ap, ◌∙◌, arith}
 use Rattle.codec.specs.Put.{put_at}
 use Rattle.codec.proofs.Writes.{within, span}
 use Rattle.codec.proofs.write.copy_edit.Goals as goal

@@ -1,4 +1,4 @@
-use Rattle.std.proofs.Common.{◌≡◌, ℕ, ◌+◌, ◌-◌, List, ◌++◌, length, take, drop, sym, refl, ap, ◌∙◌, arith}
+use Rattle.std.proofs.Common.{◌≡◌, ◌-◌, take, ap, ◌∙◌, arith}
 use Rattle.codec.specs.Put.{head_of}
 use Rattle.codec.proofs.Writes.{then_room, then_put, then_end}
 use Rattle.codec.proofs.write.write_edit.Goals as goal

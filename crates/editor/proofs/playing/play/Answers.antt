@@ -6,7 +6,7 @@ use Rattle.editor.proofs.playing.play.Goals as goal
 
 pub returns-in_err-editor : goal.returns-in_err-editor
 returns-in_err-editor c =
-    let p = err_from_is_err_and c.from-residual.result c.from-residual.ensures.1 in
+    let p = err_from_is_err_and c.from_residual.result c.from_residual.ensures.1 in
     rw (p.1, p.2) (inl (not_begun c.args.width c.args.height _ _ _ _ _ _ _ _ refl c.in_err-editor.ensures))
 
 pub loop-at-init : goal.loop-at-init
@@ -14,7 +14,7 @@ loop-at-init c = ([], play_begun c.args.width c.args.height c.args.script.now _ 
 
 pub returns-in_err-turn : goal.returns-in_err-turn
 returns-in_err-turn c =
-    let p = err_from_is_err_and c.from-residual-in_err-turn.result c.from-residual-in_err-turn.ensures.1 in
+    let p = err_from_is_err_and c.from_residual-in_err-turn.result c.from_residual-in_err-turn.ensures.1 in
     let l = c.loop-at in let first = c.begin.new in let last = c.turn.new in
     let begun = begun_long c.args.width c.args.height (begin_refusal c.args.width c.args.height (length c.args.tiles.now) (length c.args.work.now)) c.args.turns.now c.args.tiles.now c.args.work.now first.turns first.tiles first.work c.in_ok-editor.editor c.in_ok-editor.ensures in
     let looped = long_on _ _ _ first.turns first.tiles first.work l.turns l.tiles l.work begun l.auto.turns l.auto.tiles l.auto.work in

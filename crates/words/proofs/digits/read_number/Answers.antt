@@ -9,7 +9,7 @@ returns-in_err-digit c =
     let off =
     number_stop c.args.most c.loop-b.n c.args.word.now c.loop-b.b-index c.loop-b-test.true
     (λ l. absurd (c.in_err-digit.ensures.value (omega arith))) in
-    rw c.from-residual.ensures record { is = sym off ∙ c.loop-b.invariant.1; bound = tt }
+    rw c.from_residual.ensures record { is = sym off ∙ c.loop-b.invariant.1; bound = tt }
 
 pub returns-then-n-most : goal.returns-then-n-most
 returns-then-n-most c =

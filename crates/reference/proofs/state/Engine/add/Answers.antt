@@ -19,7 +19,7 @@ good_of s = all_good (vec_items s.bytes) (vec_items s.edits) s.kinds s.reaches s
 pub returns-in_err-extend_from_slice : goal.returns-in_err-extend_from_slice
 returns-in_err-extend_from_slice c =
     let s = c.args.self.now in
-    not_added _ _ _ _ c.from-residual.ensures.0
+    not_added _ _ _ _ c.from_residual.ensures.0
     (record { same_wide = refl; same_high = refl; same_taken = refl; history_is = ap (λ b. history_of b (vec_items s.edits) s.done) c.in_err-extend_from_slice.ensures.items })
 
 pub invariant-of-self-in-Break·-branch-2 : goal.invariant-of-self-in-Break·-branch-2
@@ -34,7 +34,7 @@ invariant-of-self-in-Break·-branch-2 c =
 pub returns-in_err-put_behind : goal.returns-in_err-put_behind
 returns-in_err-put_behind c =
     let s = c.args.self.now in
-    not_added _ _ _ _ c.from-residual-in_err-put_behind.ensures.0
+    not_added _ _ _ _ c.from_residual-in_err-put_behind.ensures.0
     (record {
       same_wide = refl;
       same_high = refl;
