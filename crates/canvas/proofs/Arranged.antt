@@ -1,22 +1,21 @@
 -- From entries that changed places to the page that they mean: each edit of the layers. Assumes nothing.
-use Rattle.std.proofs.Common.{◌≡◌, ℕ, suc, ◌+◌, ◌-◌, ◌*◌, ◌<◌, ◌≤◌, Bool, true, false, cond, ltb, ◌≢◌, ◌⊎◌, List, map, length, get_or, take, set, sym, refl, ap, ◌∙◌, subst, ap₂, subst₂, inl, inr, add-one, arith, length-set, get_or-set_other, get_or-set_same}
+use Rattle.std.proofs.Common.{◌≡◌, ℕ, suc, ◌+◌, ◌-◌, ◌*◌, ◌<◌, ◌≤◌, Bool, true, false, cond, ◌≢◌, List, length, get_or, take, set, sym, refl, ap, ◌∙◌, subst, ap₂, subst₂, inl, inr, add-one, arith, length-set, get_or-set_other, get_or-set_same}
 use mathlib.Core.Path.{subst₃}
-use lib.Seq.{take-set-lt}
 use Rattle.std.proofs.lemmas.Nat.{mul-add-lt}
-use Rattle.std.proofs.lemmas.List.{length-map, length-take-le, get_or-map, get_or-take, map-set}
+use Rattle.std.proofs.lemmas.List.{length-map, length-take-le, get_or-map, get_or-take}
 use Rattle.std.proofs.lemmas.Bool.{cases_eq, cond-true, cond-false, lt-ltb, le-ltb}
 use Rattle.pixel.specs.Bytes.{pixel_at, PixelsTo, Wrote}
 use Rattle.pixel.specs.Pixels.{clear, merged}
 use Rattle.pixel.proofs.Steps.{pixel_kept, pixels_wrote}
 use Rattle.page.specs.Layers.{Layer, clear_layer, painted, put_in, without}
-use Rattle.page.specs.Edits.{Page, Edit, edited, layer, active_layer, with_layers, add_layer, drop_layer, choose_layer, raise_layer, set_mode, set_opacity, merge_down, merged_layer}
-use Rattle.page.specs.Agree.{LayerAgree, LayersAgree, Agree}
+use Rattle.page.specs.Edits.{Page, Edit, edited, active_layer, with_layers, add_layer, drop_layer, choose_layer, raise_layer, set_mode, set_opacity, merge_down, merged_layer}
+use Rattle.page.specs.Agree.{LayerAgree, Agree}
 use Rattle.page.proofs.Agreeing.{agree_refl}
 use Rattle.page.proofs.Same.{layers_by}
 use Rattle.canvas.specs.declared.state.Layer.{Layer as Entry}
 use Rattle.canvas.specs.declared.state.Canvas.{Canvas}
 use Rattle.canvas.specs.View.{plane_at, selection_at, clipboard_at, fresh, no_entry, layer_of, layers_of, view}
-use Rattle.canvas.specs.Arranging.{from_lowered, from_raised, Reordered, Arranged, LayersEdited, LayersPainted, plane_start}
+use Rattle.canvas.specs.Arranging.{from_lowered, from_raised, Arranged, LayersEdited, LayersPainted, plane_start}
 use Rattle.canvas.proofs.Moving.{first_lowered, lowered_other, raised_in, raised_below, raised_same}
 use Rattle.canvas.proofs.Placing.{length-put_in, put_in_at, put_in_from, length_without, without_from, raised_from}
 use Rattle.canvas.proofs.Views.{plane_in, planes_apart, view_layer, view_count}

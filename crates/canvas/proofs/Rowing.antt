@@ -1,5 +1,5 @@
 -- Rows of bytes, one after the other. Assumes nothing.
-use Rattle.std.proofs.Common.{◌≡◌, ℕ, ◌+◌, ◌*◌, ◌<◌, ◌≤◌, List, length, get_or, sym, refl, ap, ◌∙◌, le_refl, arith, below_more}
+use Rattle.std.proofs.Common.{◌≡◌, ℕ, ◌+◌, ◌*◌, ◌<◌, ◌≤◌, List, get_or, refl, ap, ◌∙◌, le_refl, arith, below_more}
 use Rattle.std.proofs.lemmas.Nat.{mul-le}
 use Rattle.pixel.specs.Bytes.{BytesTo, Wrote}
 use Rattle.canvas.specs.Rows.{RowsTo}

@@ -1,5 +1,5 @@
 -- From the bytes that an operation leaves to the page that they mean. Assumes nothing.
-use Rattle.std.proofs.Common.{◌≡◌, ℕ, ◌+◌, ◌*◌, ◌<◌, ◌≤◌, ◌≢◌, ◌⊎◌, List, [], ◌∷◌, map, length, get_or, take, set, sym, refl, ap, ◌∙◌, subst, ap₂, subst₂, inl, inr, le_refl, arith, length-set, get_or-set_other, get_or-set_same}
+use Rattle.std.proofs.Common.{◌≡◌, ℕ, ◌+◌, ◌*◌, ◌<◌, ◌≤◌, ◌≢◌, ◌⊎◌, List, [], ◌∷◌, length, get_or, take, set, sym, refl, ap, ◌∙◌, subst, ap₂, subst₂, inl, inr, le_refl, arith, length-set, get_or-set_other, get_or-set_same}
 use Rattle.std.proofs.lemmas.Nat.{mul-le, mul-add-lt}
 use Rattle.std.proofs.lemmas.List.{length-map, length-take-le, get_or-map, get_or-take}
 use Rattle.std.proofs.lemmas.Bool.{cases_eq, cases_order}
@@ -8,7 +8,7 @@ use Rattle.pixel.specs.Bytes.{pixel_at, PixelsTo, BytesTo, Wrote}
 use Rattle.pixel.specs.Pixels.{clear, pixel_lerp}
 use Rattle.pixel.proofs.Steps.{pixel_kept, pixel_before, pixels_wrote, bytes_wrote}
 use Rattle.page.specs.Layers.{Picture, Layer, clear_layer, painted}
-use Rattle.page.specs.Edits.{Page, Edit, edited, fill, blank, layer, active_layer, with_layer, with_selected}
+use Rattle.page.specs.Edits.{Edit, edited, fill, blank, layer, active_layer, with_layer, with_selected}
 use Rattle.page.specs.Agree.{Same, LayerAgree, LayersAgree, Agree}
 use Rattle.page.proofs.Same.{layers_by}
 use Rattle.canvas.specs.declared.state.Layer.{Layer as Entry}

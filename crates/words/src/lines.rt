@@ -107,7 +107,7 @@ fn read_raw(line: &[u8], turn: &mut Vec<u8>) -> Result<bool, AllocError>
 fn is_bytes(name: &[u8]) -> bool
     ensures { result ≡ bytes_eq name.now (codes "bytes") }
 {
-    name == b"bytes"
+    name == b"bytes".as_slice()
 }
 
 // Adds the bytes of the command of a name, from the line behind it; false where there is none.

@@ -1,4 +1,3 @@
-use Rattle.std.proofs.Common.{arith}
 use Rattle.canvas.proofs.Views.{blanked}
 use Rattle.canvas.proofs.blanking.make_blank.Goals as goal
 

@@ -1,4 +1,4 @@
-use Rattle.std.proofs.Common.{◌≡◌, ◌+◌, ◌*◌, get_or, ap, ◌∙◌, arith}
+use Rattle.std.proofs.Common.{◌+◌, ◌*◌, get_or, ap, ◌∙◌, arith}
 use Rattle.pixel.specs.Pixels.{pixel_lerp}
 use Rattle.pixel.proofs.Steps.{pixels_step, pixel_after}
 use Rattle.canvas.proofs.filling.fill_pixels.Goals as goal

@@ -1,4 +1,4 @@
-use Rattle.std.proofs.Common.{◌≡◌, ◌+◌, ◌*◌, ◌≤◌, ◌⊎◌, ◌∙◌, ap₂, inl, inr, arith}
+use Rattle.std.proofs.Common.{◌+◌, ◌*◌, ◌≤◌, ◌⊎◌, ◌∙◌, ap₂, inl, inr, arith}
 use Rattle.pixel.specs.Pixels.{merged}
 use Rattle.pixel.proofs.Steps.{pixels_step, pixels_wrote, pixel_kept, pixel_after}
 use Rattle.canvas.proofs.merging.merge_pixels.Goals as goal

@@ -1,4 +1,4 @@
-use Rattle.std.proofs.Common.{◌+◌, ◌*◌, ap, arith}
+use Rattle.std.proofs.Common.{ap, arith}
 use Rattle.page.specs.Selection.{mask_of}
 use Rattle.canvas.proofs.Rowing.{row_fits, rows_more}
 use Rattle.canvas.proofs.selecting.select_rows.Goals as goal

@@ -14,14 +14,14 @@ returns-then-args-eq2 c =
     let two = c.as_str-then-args-eq2.ensures.value ∙ word_at string_bytes xs 1 c.index-args-1.result (omega arith) c.index-args-1.is in
     record { is = options_one string_bytes xs (asked c.args.call) (option_map asked c.with_option.result) (omega arith) (c.with_option.ensures.is ∙ ap₂ (with_option (asked c.args.call)) one two); bound = c.with_option.ensures.bound }
 
-pub returns-in-default : goal.returns-in-default
-returns-in-default c =
+pub returns-in_default : goal.returns-in_default
+returns-in_default c =
     let xs = c.args.args.now in
     let one = c.as_str-then-args-eq4.ensures.value ∙ word_at string_bytes xs 0 c.index-args-0-then-args-eq4.result (omega arith) c.index-args-0-then-args-eq4.is in
     let two = c.as_str-then-args-eq4-2.ensures.value ∙ word_at string_bytes xs 1 c.index-args-1-then-args-eq4.result (omega arith) c.index-args-1-then-args-eq4.is in
     record {
       is = options_two string_bytes xs (asked c.args.call) None (omega arith)
-          (ap (λ o. with_second o (get_or (map string_bytes xs) 2 []) (get_or (map string_bytes xs) 3 [])) (c.in-default.ensures.is ∙ ap₂ (with_option (asked c.args.call)) one two));
+          (ap (λ o. with_second o (get_or (map string_bytes xs) 2 []) (get_or (map string_bytes xs) 3 [])) (c.in_default.ensures.is ∙ ap₂ (with_option (asked c.args.call)) one two));
       bound = λ h. tt;
     }
 

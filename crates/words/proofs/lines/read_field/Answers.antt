@@ -9,15 +9,15 @@ use Rattle.words.specs.Table.{two}
 use Rattle.words.proofs.Going.{at_field}
 use Rattle.words.proofs.lines.read_field.Goals as goal
 
-pub returns-in-default : goal.returns-in-default
-returns-in-default c =
+pub returns-in_default : goal.returns-in_default
+returns-in_default c =
     let old = vec_items c.args.turn.now in
-    at_field _ Byte old c.args.word.now None c.in-Byte.is (ap (λ o. option_append (Some old) (one o)) c.in-default.ensures.is)
+    at_field _ Byte old c.args.word.now None c.in-Byte.is (ap (λ o. option_append (Some old) (one o)) c.in_default.ensures.is)
 
-pub returns-in-default-read_number : goal.returns-in-default-read_number
-returns-in-default-read_number c =
+pub returns-in_default-read_number : goal.returns-in_default-read_number
+returns-in_default-read_number c =
     let old = vec_items c.args.turn.now in
-    at_field _ Short old c.args.word.now None c.in-Short.is (ap (λ o. option_append (Some old) (option_map two o)) c.in-default-read_number.ensures.is)
+    at_field _ Short old c.args.word.now None c.in-Short.is (ap (λ o. option_append (Some old) (option_map two o)) c.in_default-read_number.ensures.is)
 
 pub returns-then-word-ne8 : goal.returns-then-word-ne8
 returns-then-word-ne8 c =

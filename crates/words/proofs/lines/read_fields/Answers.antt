@@ -4,10 +4,10 @@ use Rattle.words.specs.declared.forms.Field.TheVariants.{Byte}
 use Rattle.words.proofs.Going.{at_flag, fields_step, fields_short, fields_end}
 use Rattle.words.proofs.lines.read_fields.Goals as goal
 
-pub returns-in-default : goal.returns-in-default
-returns-in-default c =
+pub returns-in_default : goal.returns-in_default
+returns-in_default c =
     fields_short c.args.fields.now c.loop-field.field-index Byte (vec_items c.loop-field.turn) _
-    c.loop-field-test.true c.in-default.ensures
+    c.loop-field-test.true c.in_default.ensures
     ∙ c.loop-field.invariant
 
 pub returns-then-not-branch : goal.returns-then-not-branch

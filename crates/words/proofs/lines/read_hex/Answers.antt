@@ -5,12 +5,12 @@ use Rattle.words.proofs.Going.{then_on, then_end}
 use Rattle.words.proofs.Numerals.{hex_at, hex_end}
 use Rattle.words.proofs.lines.read_hex.Goals as goal
 
-pub returns-in-default : goal.returns-in-default
-returns-in-default c =
+pub returns-in_default : goal.returns-in_default
+returns-in_default c =
     let w = c.args.word.now in
     let i = c.loop-i.i in
     let old = vec_items c.loop-i.turn in
-    then_on None old _ (hex_bytes (drop (2 * (i + 1)) w)) (ap (λ o. option_append (Some old) (one o)) c.in-default.ensures)
+    then_on None old _ (hex_bytes (drop (2 * (i + 1)) w)) (ap (λ o. option_append (Some old) (one o)) c.in_default.ensures)
     ∙ (ap (option_append (Some old)) (sym (hex_at w i (omega arith))) ∙ c.loop-i.invariant)
 
 pub loop-i-preserved : goal.loop-i-preserved

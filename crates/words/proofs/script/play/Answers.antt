@@ -17,4 +17,4 @@ loop-line-preserved g c = (
 pub returns : goal.returns
 returns g c =
     onward_end g.P.Takes.steps (lines_of c.args.script.now) c.args.page.now (string_bytes c.args.messages.now) (c.loop-line.number + 1) (lines_of c.loop-line.rest.now) c.loop-line.page (string_bytes c.loop-line.messages) c.loop-line.all
-    c.loop-line.invariant.1 c.in-default.ensures
+    c.loop-line.invariant.1 c.in_default.ensures

@@ -1,4 +1,4 @@
-use Rattle.std.proofs.Common.{◌≡◌, ℕ, ◌+◌, List, get_or, set, refl, ◌∙◌, subst₂, arith, length-set}
+use Rattle.std.proofs.Common.{◌+◌, get_or, set, refl, ◌∙◌, subst₂, arith, length-set}
 use Rattle.pixel.specs.Pixels.{clear}
 use Rattle.pixel.specs.Bytes.{PixelsTo}
 use Rattle.canvas.specs.View.{no_entry, fresh}
@@ -9,15 +9,15 @@ use Rattle.canvas.proofs.state.Canvas.add_layer.Goals as goal
 pub returns-then-count-ge64 : goal.returns-then-count-ge64
 returns-then-count-ge64 c = not_added c.args.self.now c.args.tiles.now (omega arith)
 
-pub invariant-of-self : goal.invariant-of-self
-invariant-of-self c =
+pub invariant_of-self : goal.invariant_of-self
+invariant_of-self c =
     let s = c.args.self.now in
     let n = s.count in
     let ls = s.layers in
     let new = fresh (get_or ls n no_entry).plane in
     let long = length-set ls n new ∙ s.full in
     let own = own_lowered (s.active + 1) n (set ls n new) _ (omega arith) (omega arith) long c.lower_entry.ensures (own_set ls n new (omega arith) refl (s.planes, s.distinct)) in
-    (s.sized, (c.lower_entry.ensures.long ∙ long, ((omega arith, omega arith), (own.0, (own.1, tt)))))
+    record { sized = s.sized; full = c.lower_entry.ensures.long ∙ long; counted = (omega arith, omega arith); planes = own.0; distinct = own.1 }
 
 pub returns : goal.returns
 returns c =

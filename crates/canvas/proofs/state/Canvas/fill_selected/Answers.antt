@@ -1,4 +1,3 @@
-use Rattle.std.proofs.Common.{arith}
 use Rattle.canvas.proofs.Views.{filled}
 use Rattle.canvas.proofs.state.Canvas.fill_selected.Goals as goal
 

@@ -1,4 +1,4 @@
-use Rattle.std.proofs.Common.{◌≡◌, ◌+◌, ◌*◌, ◌≤◌, ◌≢◌, ◌⊎◌, get_or, ap, inl, inr, arith}
+use Rattle.std.proofs.Common.{◌≡◌, ◌+◌, ◌*◌, ◌≤◌, ◌≢◌, ◌⊎◌, get_or, inl, inr, arith}
 use Rattle.canvas.specs.View.{no_entry}
 use Rattle.canvas.proofs.Arranged.{merged_down, not_merged}
 use Rattle.canvas.proofs.Views.{two_planes}
@@ -17,8 +17,8 @@ merge_pixels-requires c =
     = elim (two_planes n (get_or s.layers below no_entry).plane (get_or s.layers s.active no_entry).plane other) [ inl l ↦ inl (omega arith) | inr l ↦ inr (omega arith) ] in
     (omega arith, (omega arith, apart))
 
-pub returns-in-default : goal.returns-in-default
-returns-in-default c = not_merged c.args.self.now c.args.tiles.now c.in-default.ensures
+pub returns-in_default : goal.returns-in_default
+returns-in_default c = not_merged c.args.self.now c.args.tiles.now c.in_default.ensures
 
 pub returns : goal.returns
 returns c =

@@ -1,4 +1,4 @@
-use Rattle.std.proofs.Common.{◌≡◌, ◌+◌, ◌*◌, ◌≤◌, get_or, ap, arith}
+use Rattle.std.proofs.Common.{◌≡◌, ◌*◌, get_or, ap, arith}
 use Rattle.canvas.specs.View.{plane_at, no_entry}
 use Rattle.canvas.proofs.Views.{plane_in}
 use Rattle.canvas.proofs.state.Canvas.plane_of.Goals as goal

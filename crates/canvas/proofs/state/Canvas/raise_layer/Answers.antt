@@ -3,14 +3,14 @@ use Rattle.canvas.proofs.Moving.{own_raised}
 use Rattle.canvas.proofs.Arranged.{raised, not_raised}
 use Rattle.canvas.proofs.state.Canvas.raise_layer.Goals as goal
 
-pub returns-in-default : goal.returns-in-default
-returns-in-default c = λ xs. not_raised c.args.self.now xs c.in-default.ensures
+pub returns-in_default : goal.returns-in_default
+returns-in_default c = λ xs. not_raised c.args.self.now xs c.in_default.ensures
 
-pub invariant-of-self : goal.invariant-of-self
-invariant-of-self c =
+pub invariant_of-self : goal.invariant_of-self
+invariant_of-self c =
     let s = c.args.self.now in
     let own = own_raised s.active _ s.layers _ (omega arith) (omega arith) s.full c.raise_entry.ensures (s.planes, s.distinct) in
-    (s.sized, (c.raise_entry.ensures.long ∙ s.full, ((omega arith, omega arith), (own.0, (own.1, tt)))))
+    record { sized = s.sized; full = c.raise_entry.ensures.long ∙ s.full; counted = (omega arith, omega arith); planes = own.0; distinct = own.1 }
 
 pub returns : goal.returns
 returns c = raised c.args.self.now _ _ c.in-Some.ensures.0 (record { wide_is = refl; high_is = refl; count_is = refl; active_is = refl; entries = c.raise_entry.ensures }) c.in-Some.ensures.1

@@ -1,4 +1,4 @@
-use Rattle.std.proofs.Common.{refl, arith}
+use Rattle.std.proofs.Common.{refl}
 use Rattle.page.specs.Edits.{select_all}
 use Rattle.canvas.proofs.Views.{bytes_reselected}
 use Rattle.canvas.proofs.state.Canvas.select_all.Goals as goal

@@ -1,4 +1,4 @@
-use Rattle.std.proofs.Common.{◌+◌, ◌-◌, ◌*◌, get_or, refl, ap, arith}
+use Rattle.std.proofs.Common.{◌+◌, ◌-◌, ◌*◌, get_or, refl, ap}
 use Rattle.page.specs.Edits.{select_inverse}
 use Rattle.canvas.proofs.Views.{bytes_reselected}
 use Rattle.canvas.proofs.state.Canvas.select_inverse.Goals as goal

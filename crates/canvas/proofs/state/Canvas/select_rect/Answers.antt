@@ -1,4 +1,4 @@
-use Rattle.std.proofs.Common.{refl, arith}
+use Rattle.std.proofs.Common.{refl}
 use Rattle.page.specs.Edits.{select_rect}
 use Rattle.canvas.proofs.Views.{rows_reselected}
 use Rattle.canvas.proofs.state.Canvas.select_rect.Goals as goal

@@ -22,8 +22,8 @@ returns-in_err-extend_from_slice c =
     not_added _ _ _ _ c.from_residual.ensures.0
     (record { same_wide = refl; same_high = refl; same_taken = refl; history_is = ap (λ b. history_of b (vec_items s.edits) s.done) c.in_err-extend_from_slice.ensures.items })
 
-pub invariant-of-self-in-Break·-branch-2 : goal.invariant-of-self-in-Break·-branch-2
-invariant-of-self-in-Break·-branch-2 c =
+pub invariant_of-self-in-Break·-branch-2 : goal.invariant_of-self-in-Break·-branch-2
+invariant_of-self-in-Break·-branch-2 c =
     let s = c.args.self.now in
     let bytes = c.in_ok-extend_from_slice.ensures.items in
     let edits = c.in_err-put_behind.ensures.items in
@@ -48,8 +48,8 @@ new-means : (bs turn now : List ℕ) (at : ℕ) (x : Edit × ℕ) → now ≡ bs
 new-means bs turn now at x is long read e b =
     ap (λ p. edit_of (bs ++ turn) p.0) (read ∙ ap₂ edit_and_end is long) ∙ read_behind bs turn e b
 
-pub invariant-of-self-2 : goal.invariant-of-self-2
-invariant-of-self-2 c =
+pub invariant_of-self-2 : goal.invariant_of-self-2
+invariant_of-self-2 c =
     let s = c.args.self.now in
     let bs = vec_items s.bytes in
     let turn = c.args.turn.now in

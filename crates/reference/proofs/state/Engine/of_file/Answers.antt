@@ -5,8 +5,8 @@ use Rattle.reference.proofs.Listing.{good_built, good_reach, good_fits}
 use Rattle.reference.proofs.Opening.{all_long, done_means, undone_means, all_opened}
 use Rattle.reference.proofs.state.Engine.of_file.Goals as goal
 
-pub invariant-of-result : goal.invariant-of-result
-invariant-of-result c =
+pub invariant_of-result : goal.invariant_of-result
+invariant_of-result c =
     let bs = vec_items c.args.file in
     let f = c.args.head in
     let es = vec_items c.in-Ok.edits in
