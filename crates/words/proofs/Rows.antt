@@ -1,6 +1,5 @@
 -- The words of a row's fields are read back, whatever the fields are; a row is found again by its name.
 use Rattle.std.proofs.Common.{◌≡◌, ℕ, ◌+◌, ◌*◌, ◌/◌, ◌%◌, ◌<◌, ◌≤◌, Bool, true, false, not, ◌&&◌, eqb, List, [], ◌∷◌, ◌++◌, map, length, get_or, take, drop, Some, None, codes, Decides, sym, refl, ap, ◌∙◌, subst, inl, inr, append_assoc, arith, length-drop, take-append-drop, length-take}
-use Rattle.std.specs.Cmp.Lexicographic.{Matches}
 use Rattle.std.specs.List.{AllByRecursion as All}
 use Rattle.std.specs.Str.{bytes_eq}
 use Rattle.std.proofs.ByRecursion.{All-take, All-drop}
@@ -175,10 +174,6 @@ find_on test fs i d h t = at_drop_more (λ gs. find test (map row_of gs)) fs i d
 
 pub find_none : (test : Row → Bool) (fs : List Form) (i : ℕ) → length fs ≤ i → find test (map row_of (drop i fs)) ≡ None
 find_none test fs i h = at_drop_all (λ gs. find test (map row_of gs)) fs i h
-
--- `==` on bytes, and `starts_with`
-pub matched : (xs ys : List ℕ) (r : Bool) → Matches (λ (a b : ℕ) (t : Bool). Decides t (a ≡ b)) xs ys r → r ≡ bytes_eq xs ys
-matched xs ys r h = same_from_decides r (bytes_eq xs ys) (slice_eq-Decides Decides-eqb xs ys r h) (bytes_eq-Decides xs ys)
 
 -- one word more of a turn's fields
 pub spaced_step : (fs : List Field) (i : ℕ) (d : Field) (old gap new bytes rest : List ℕ) → i < length fs → gap ≡ old ++ 32 ∷ [] →

@@ -51,7 +51,7 @@ fn write_cells<P: Shows>(
     y: usize,
     out: &mut Vec<u8>,
 ) -> Result<(), AllocError>
-    ensures { OnOk result (out.new.items ≡ out.old.items ++ cells format wide (λ x. seen page.now x y)) }
+    ensures { OnOk result (out.new.items ≡ out.old.items ++ cells format wide (λ x. P.seen page.now x y)) }
 {
     for x in 0..wide {
         write_cell(format, x, page.pixel(x, y), out)?;
@@ -67,7 +67,7 @@ fn write_rows<P: Shows>(
     high: usize,
     out: &mut Vec<u8>,
 ) -> Result<(), AllocError>
-    ensures { OnOk result (out.new.items ≡ out.old.items ++ rows format wide high (seen page.now)) }
+    ensures { OnOk result (out.new.items ≡ out.old.items ++ rows format wide high (P.seen page.now)) }
 {
     for y in 0..high {
         write_cells(format, page, wide, y, out)?;
@@ -84,7 +84,7 @@ pub fn print<P: Shows>(
     wide: usize,
     high: usize,
 ) -> Result<Vec<u8>, AllocError>
-    ensures { IfOk result (λ out. out.items ≡ printed format wide high (seen page.now)) }
+    ensures { IfOk result (λ out. out.items ≡ printed format wide high (P.seen page.now)) }
 {
     let mut out = Vec::new(heap);
     let text = heading(heap, format, wide, high)?;

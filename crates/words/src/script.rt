@@ -54,7 +54,7 @@ fn take_turn<P: Takes>(
     turn: &[u8],
     messages: &mut String,
 ) -> Result<bool, AllocError>
-    ensures { IfOk result (λ ok. TurnPlays steps number turn.now page.old page.new (string_bytes messages.old) (string_bytes messages.new) ok) }
+    ensures { IfOk result (λ ok. TurnPlays P.steps number turn.now page.old page.new (string_bytes messages.old) (string_bytes messages.new) ok) }
 {
     match page.take(turn) {
         Outcome::Taken => Ok(true),
@@ -76,7 +76,7 @@ fn take_line<P: Takes>(
     line: &[u8],
     messages: &mut String,
 ) -> Result<bool, AllocError>
-    ensures { IfOk result (λ ok. LinePlays steps number (understood line.now).0 (understood line.now).1 page.old page.new (string_bytes messages.old) (string_bytes messages.new) ok) }
+    ensures { IfOk result (λ ok. LinePlays P.steps number (understood line.now).0 (understood line.now).1 page.old page.new (string_bytes messages.old) (string_bytes messages.new) ok) }
 {
     let mut turn = Vec::new(heap);
     match read_line(line, &mut turn)? {
@@ -97,7 +97,7 @@ pub fn play<P: Takes>(
     script: &[u8],
     messages: &mut String,
 ) -> Result<bool, AllocError>
-    ensures { IfOk result (λ ok. Plays steps 1 (lines_of script.now) page.old page.new (string_bytes messages.old) (string_bytes messages.new) ok) }
+    ensures { IfOk result (λ ok. Plays P.steps 1 (lines_of script.now) page.old page.new (string_bytes messages.old) (string_bytes messages.new) ok) }
 {
     let mut all = true;
     let mut number = 0;
