@@ -1,5 +1,5 @@
 -- What is seen of the first layers, at one pixel: it rests on their pixels there alone. Assumes nothing.
-use Rattle.std.proofs.Common.{◌≡◌, ℕ, zero, suc, ◌+◌, ◌-◌, ◌*◌, ◌<◌, ◌≤◌, List, get_or, take, sym, refl, ap, ◌∙◌, subst, inl, add-one, arith}
+use Rattle.std.proofs.Common.{◌≡◌, ℕ, zero, suc, ◌+◌, ◌-◌, ◌*◌, ◌<◌, ◌≤◌, List, get_or, sym, refl, ap, ◌∙◌, subst, inl, add-one, arith}
 use Rattle.std.proofs.lemmas.Nat.{mul-add-lt}
 use Rattle.std.proofs.lemmas.Bool.{cond_both}
 use Rattle.pixel.specs.declared.Pixel.{Pixel}
@@ -7,7 +7,7 @@ use Rattle.pixel.specs.Channels.{Channel, share, lerp, mixed}
 use Rattle.pixel.specs.Pixels.{white, pixel_over}
 use Rattle.pixel.specs.Bytes.{pixel_at, Wrote}
 use Rattle.pixel.proofs.Steps.{same_pixel, pixel_kept}
-use Rattle.page.specs.Layers.{layer_over, composite}
+use Rattle.page.specs.Layers.{layer_over}
 use Rattle.page.specs.Edits.{seen}
 use Rattle.canvas.specs.declared.state.Layer.{Layer as Entry}
 use Rattle.canvas.specs.declared.state.Canvas.{Canvas}

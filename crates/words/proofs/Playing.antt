@@ -1,7 +1,7 @@
 -- Scripts line by line: where a line ends, and what comes of one line after the other. Assumes nothing.
-use Rattle.std.proofs.Common.{◌≡◌, ℕ, ◌+◌, ◌<◌, ◌≤◌, Bool, true, false, ◌&&◌, eqb, List, [], ◌∷◌, ◌++◌, length, get_or, take, drop, sym, refl, ap, ◌∙◌, subst, ap₂, arith}
+use Rattle.std.proofs.Common.{◌≡◌, ℕ, ◌+◌, ◌<◌, ◌≤◌, Bool, true, false, ◌&&◌, eqb, List, [], ◌∷◌, ◌++◌, length, get_or, drop, sym, refl, ap, ◌∙◌, subst, arith}
 use Rattle.std.proofs.lemmas.Bool.{cond-true, cond-false}
-use Rattle.std.proofs.lemmas.List.{at_drop_more, drop_all, nil_from_length}
+use Rattle.std.proofs.lemmas.List.{at_drop_more, drop_all}
 use Rattle.words.specs.declared.lines.Line.{Line}
 use Rattle.words.specs.declared.lines.Line.TheVariants.{Unknown}
 use Rattle.words.specs.declared.taking.Outcome.{Outcome}

@@ -1,12 +1,10 @@
 -- The words of a row's fields are read back, whatever the fields are; a row is found again by its name.
-use Rattle.std.proofs.Common.{◌≡◌, ℕ, ◌+◌, ◌*◌, ◌/◌, ◌%◌, ◌<◌, ◌≤◌, Bool, true, false, not, ◌&&◌, eqb, List, [], ◌∷◌, ◌++◌, map, length, get_or, take, drop, Some, None, codes, Decides, sym, refl, ap, ◌∙◌, subst, inl, inr, append_assoc, arith, length-drop, take-append-drop, length-take}
+use Rattle.std.proofs.Common.{◌≡◌, ℕ, ◌+◌, ◌*◌, ◌/◌, ◌%◌, ◌<◌, ◌≤◌, Bool, true, false, not, ◌&&◌, eqb, List, [], ◌∷◌, ◌++◌, map, length, get_or, take, drop, Some, None, codes, sym, refl, ap, ◌∙◌, subst, inl, inr, append_assoc, arith, length-drop, take-append-drop, length-take}
 use Rattle.std.specs.List.{AllByRecursion as All}
-use Rattle.std.specs.Str.{bytes_eq}
 use Rattle.std.proofs.ByRecursion.{All-take, All-drop}
-use Rattle.std.proofs.lemmas.Slice.Eq.{slice_eq-Decides, bytes_eq-Decides}
+use Rattle.std.proofs.lemmas.Slice.Eq.{bytes_eq-Decides}
 use Rattle.std.proofs.lemmas.List.{at_drop_more, at_drop_all}
 use Rattle.std.proofs.lemmas.Bool.{eqb-true, cases_Bool, cond-true, cond-false, and_parts, not-true, false≢true}
-use Rattle.std.proofs.lemmas.Bool.Decides.{same_from_decides, Decides-eqb}
 use Rattle.words.specs.declared.forms.Field.{Field}
 use Rattle.words.specs.declared.forms.Field.TheVariants.{Byte, Short, Colour}
 use Rattle.words.specs.declared.forms.Form.{Form}

@@ -1,4 +1,4 @@
-use Rattle.std.proofs.Common.{◌&&◌, string_bytes, sym, ap, ◌∙◌, arith}
+use Rattle.std.proofs.Common.{string_bytes, ap, ◌∙◌, arith}
 use Rattle.std.specs.Str.{bytes_eq}
 use Rattle.words.proofs.Arguments.{word_at, too_few, enough}
 use Rattle.words.proofs.call.begins.Goals as goal

@@ -1,4 +1,4 @@
-use Rattle.std.proofs.Common.{◌≡◌, ◌-◌, [], map, length, get_or, take, drop, string_bytes, sym, refl, ap, ◌∙◌, ap₂, arith}
+use Rattle.std.proofs.Common.{[], map, get_or, drop, string_bytes, ap, ◌∙◌, ap₂, arith}
 use Rattle.words.specs.Digits.{number_of}
 use Rattle.words.specs.Calls.{bare, blank, with_options, new_page}
 use Rattle.words.proofs.Arguments.{word_at, words_behind}

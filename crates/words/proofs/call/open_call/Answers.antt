@@ -1,4 +1,4 @@
-use Rattle.std.proofs.Common.{◌≡◌, string_bytes, ◌∙◌, ap₂, arith}
+use Rattle.std.proofs.Common.{string_bytes, ◌∙◌, ap₂, arith}
 use Rattle.words.specs.Calls.{bare, file, with_options}
 use Rattle.words.proofs.Arguments.{word_at, words_behind}
 use Rattle.words.proofs.call.open_call.Goals as goal

@@ -1,4 +1,4 @@
-use Rattle.std.proofs.Common.{◌≡◌, [], map, get_or, None, string_bytes, sym, refl, ap, ◌∙◌, ap₂, arith}
+use Rattle.std.proofs.Common.{[], map, get_or, None, string_bytes, ap, ◌∙◌, ap₂, arith}
 use Rattle.std.specs.Option.{option_map}
 use Rattle.words.specs.Calls.{asked, with_option, with_second}
 use Rattle.words.proofs.Arguments.{word_at, options_none, options_one, options_two, options_no}

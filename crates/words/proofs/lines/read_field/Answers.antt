@@ -25,17 +25,17 @@ returns-then-word-ne8 c =
     let w = c.args.word.now in
     at_field _ Colour old w None c.in-Colour.is (ap (λ b. option_append (Some old) (cond b (hex_bytes w) None)) (sym (ne_eqb _ 8 c.if-word-ne8.true)))
 
-pub returns-in_ok-push : goal.returns-in_ok-push
-returns-in_ok-push c =
+pub returns-in_ok-push-in-Byte : goal.returns-in_ok-push-in-Byte
+returns-in_ok-push-in-Byte c =
     let old = vec_items c.args.turn.now in
     at_field _ Byte old c.args.word.now _ c.in-Byte.is
-    (ap (λ (xs : List ℕ). Some xs) c.in_ok-push.ensures.items ∙ ap (λ o. option_append (Some old) (one o)) c.in-Some.ensures.is)
+    (ap (λ (xs : List ℕ). Some xs) c.in_ok-push-in-Byte.ensures.items ∙ ap (λ o. option_append (Some old) (one o)) c.in-Some.ensures.is)
 
-pub returns-in_ok-extend_from_slice : goal.returns-in_ok-extend_from_slice
-returns-in_ok-extend_from_slice c =
+pub returns-in_ok-extend_from_slice-in-Short : goal.returns-in_ok-extend_from_slice-in-Short
+returns-in_ok-extend_from_slice-in-Short c =
     let old = vec_items c.args.turn.now in
     at_field _ Short old c.args.word.now _ c.in-Short.is
-    (ap (λ (xs : List ℕ). Some xs) c.in_ok-extend_from_slice.ensures.items ∙ ap (λ o. option_append (Some old) (option_map two o)) c.in-Some-read_number.ensures.is)
+    (ap (λ (xs : List ℕ). Some xs) c.in_ok-extend_from_slice-in-Short.ensures.items ∙ ap (λ o. option_append (Some old) (option_map two o)) c.in-Some-read_number.ensures.is)
 
 pub returns-else-word-ne8 : goal.returns-else-word-ne8
 returns-else-word-ne8 c =

@@ -1,6 +1,6 @@
-use Rattle.std.proofs.Common.{◌≡◌, ℕ, ◌+◌, string_bytes, subst, arith}
+use Rattle.std.proofs.Common.{◌+◌, string_bytes, arith}
 use Rattle.words.specs.Script.{lines_of}
-use Rattle.words.proofs.Playing.{Onward, onward_start, onward_step, onward_end}
+use Rattle.words.proofs.Playing.{onward_start, onward_step, onward_end}
 use Rattle.words.proofs.script.play.Goals as goal
 
 pub loop-line-init : goal.loop-line-init

@@ -1,4 +1,4 @@
-use Rattle.std.proofs.Common.{◌≡◌, ◌++◌, codes, decimal, ◌∙◌, ap₂}
+use Rattle.std.proofs.Common.{◌++◌, codes, decimal, ◌∙◌, ap₂}
 use Rattle.std.proofs.lemmas.Result.{IfOk-weaker}
 use Rattle.words.proofs.script.refused_text.Goals as goal
 
