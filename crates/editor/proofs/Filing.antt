@@ -1,16 +1,15 @@
 -- The editor's file: what is written is its bytes, and what is read is its history. Assumes nothing.
-use Rattle.std.proofs.Common.{◌≡◌, ℕ, ◌+◌, ◌-◌, ◌*◌, ◌<◌, ◌≤◌, Bool, true, cond, leb, List, [], ◌∷◌, ◌++◌, length, take, drop, Some, None, Ok, Option, Result, sym, refl, ap, ◌∙◌, subst, ap₂, arith, length-append}
-use Rattle.std.specs.List.{AllByRecursion as All}
-use Rattle.std.proofs.lemmas.List.Elements as elements
+use Rattle.std.proofs.Common.{◌≡◌, ℕ, ◌+◌, ◌*◌, ◌≤◌, Bool, true, cond, leb, List, [], ◌++◌, length, take, drop, None, Ok, Option, Result, sym, refl, ap, ◌∙◌, subst, ap₂, arith, length-append}
+use Rattle.std.proofs.ByRecursion as elements
 use Rattle.std.proofs.lemmas.List.{take_at, drop_at}
-use Rattle.std.proofs.lemmas.Bool.{le-leb, cond-true}
+use Rattle.std.proofs.lemmas.Bool.{le-leb}
 use Rattle.page.specs.Edits.{Edit}
 use Rattle.page.specs.Fits.{Fits}
 use Rattle.page.specs.History.{in_order}
 use Rattle.codec.specs.declared.edits.Refusal.{Refusal}
 use Rattle.codec.specs.declared.file.File.{File}
 use Rattle.codec.specs.declared.file.Lengths.{Lengths}
-use Rattle.codec.specs.Files.{all_written, file_head, file_written, Built, done_of, undone_of}
+use Rattle.codec.specs.Files.{all_written, file_head, Built, done_of, undone_of}
 use Rattle.codec.specs.FileLaws.{FileTaken}
 use Rattle.codec.specs.Put.{put_at}
 use Rattle.codec.proofs.Writes.{put_put, all_append}
@@ -64,8 +63,8 @@ taken_row bs lent f t =
     let head = file_head f.width f.height (length d) (length u) in
     record {
       is = ap (drop 16) t.is_file.is ∙ drop_at head (all_written d ++ all_written u) 16 refl ∙ sym (all_append d u);
-      fit = elements.all_append Fits d u t.is_file.fit.0 t.is_file.fit.1;
-      are_built = elements.all_append Built d u t.is_built.0 t.is_built.1;
+      fit = elements.All-append Fits d u t.is_file.fit.0 t.is_file.fit.1;
+      are_built = elements.All-append Built d u t.is_built.0 t.is_built.1;
     }
 
 pub taken_long : (bs : List ℕ) (lent : Lengths) (f : File) → FileTaken bs lent f → length (done_of bs f ++ undone_of bs f) ≡ f.done + f.undone

@@ -18,7 +18,7 @@ use Rattle.editor.specs.Promises.{pixels, TurnEnds}
 use Rattle.editor.specs.Runs as runs
 use Rattle.editor.specs.Runs.{Takes, Comes, takes}
 use Rattle.editor.specs.Desks.{desk_of, DeskSteps}
-use Rattle.editor.specs.Row.{with_line, said_by, against_next, by_answer, taken_of, row, Ran, RunsRow}
+use Rattle.editor.specs.Row.{with_line, said_by, against_next, by_answer, taken_of, row, RunsRow}
 use Rattle.editor.proofs.Coming.{shows_the_page}
 
 -- an answer is not a refusal

@@ -1,5 +1,5 @@
 -- Desks with memory of their own: what a turn makes of one, and what one shows. Assumes nothing.
-use Rattle.std.specs.Prelude.{◌≡◌, ℕ, List, [], ◌∷◌, Some, None, Ok, Err, vec_items, Option}
+use Rattle.std.specs.Prelude.{ℕ, List, [], Some, None, Ok, Err, vec_items, Option}
 use Rattle.pixel.specs.declared.Pixel.{Pixel}
 use Rattle.pixel.specs.Pixels.{white}
 use Rattle.codec.specs.Meaning.{Bytes}

@@ -1,5 +1,5 @@
 -- The contracts of the five public functions, over the editor's numbers and the lent memory. Assumes nothing.
-use Rattle.std.specs.Prelude.{◌≡◌, ℕ, ◌+◌, ◌*◌, ◌<◌, ◌≤◌, cond, List, [], ◌++◌, length, drop, Some, None, Ok, Err, Option, Result, nat_le, nat_lt}
+use Rattle.std.specs.Prelude.{◌≡◌, ℕ, ◌+◌, ◌*◌, ◌≤◌, cond, List, [], ◌++◌, length, drop, Some, None, Ok, Err, Option, Result, nat_le, nat_lt}
 use Rattle.page.specs.History.{History, Turn, turned, empty, in_order}
 use Rattle.codec.specs.declared.edits.Turn.{Turn as Read}
 use Rattle.codec.specs.declared.edits.Lent.TheVariants.{Turns, Tiles, Work, File as FileSlice}
@@ -8,8 +8,7 @@ use Rattle.codec.specs.declared.edits.Refusal.TheVariants.{NoSize, TooMany, Shor
 use Rattle.codec.specs.declared.file.File.{File}
 use Rattle.codec.specs.declared.file.Lengths.{Lengths}
 use Rattle.codec.specs.Meaning.{turn_of}
-use Rattle.codec.specs.Read.{read_turn}
-use Rattle.codec.specs.Files.{read_file, file_written, done_of, undone_of}
+use Rattle.codec.specs.Files.{file_written, done_of, undone_of}
 use Rattle.history.specs.Slots.{latest_in, history_in, Holds}
 use Rattle.editor.specs.declared.state.Editor.{Editor}
 

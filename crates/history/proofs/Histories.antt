@@ -1,11 +1,10 @@
 -- The history in the slots, and what undo, redo and a new edit make of it and of what the tiles hold. Assumes nothing.
-use Rattle.std.proofs.Common.{◌≡◌, ℕ, zero, suc, ◌+◌, ◌-◌, ◌*◌, ◌<◌, ◌≤◌, true, ◌⊎◌, List, [], ◌∷◌, ◌++◌, length, get_or, take, drop, sym, refl, ap, ◌∙◌, subst, ap₂, subst₂, inl, inr, append_assoc, append-nil, add-one, arith, length-drop}
+use Rattle.std.proofs.Common.{◌≡◌, ℕ, zero, suc, ◌+◌, ◌-◌, ◌*◌, ◌<◌, ◌≤◌, List, [], ◌∷◌, ◌++◌, length, get_or, take, drop, sym, refl, ap, ◌∙◌, subst, ap₂, subst₂, inl, inr, append_assoc, append-nil, add-one, arith, length-drop}
 use Rattle.std.proofs.lemmas.List.{same_lists, take-append-drop, length-take-le, get_or-take, get_or-drop, get_or_default}
 use Rattle.std.proofs.lemmas.Bool.{cond-true, cases_order}
-use Rattle.pixel.specs.Bytes.{BytesTo, Wrote}
-use Rattle.page.specs.Edits.{Page, Edit, edited, blank, after, seen}
+use Rattle.pixel.specs.Bytes.{BytesTo}
+use Rattle.page.specs.Edits.{Page, Edit, edited, blank}
 use Rattle.page.specs.History.{History, Turn, turned, does, undo, redo, in_order}
-use Rattle.page.specs.Fits.{kind}
 use Rattle.page.specs.Agree.{Agree}
 use Rattle.page.proofs.Undo.{after_more, done_in_order}
 use Rattle.page.proofs.Agreeing.{agree_trans, edits_agree, seen_agree}
@@ -17,7 +16,7 @@ use Rattle.canvas.specs.declared.state.Canvas.{Canvas}
 use Rattle.canvas.specs.Applying.{known, Applied}
 use Rattle.canvas.specs.View.{view}
 use Rattle.canvas.proofs.Views.{view_kept}
-use Rattle.tiles.specs.Places.{AllBuilt, Shown}
+use Rattle.tiles.specs.Places.{AllBuilt}
 use Rattle.history.specs.declared.moves.Counts.{Counts}
 use Rattle.history.specs.Slots.{slot_edit, latest_in, edits_in, history_in, made_by, Holds, SlotPut}
 use Rattle.history.specs.Moves.{Moved}

@@ -1,11 +1,9 @@
 -- Slots written to a file one after the other, and read from one. Assumes nothing.
-use Rattle.std.proofs.Common.{◌≡◌, ℕ, zero, suc, ◌+◌, ◌-◌, ◌*◌, ◌<◌, ◌≤◌, List, [], ◌∷◌, ◌++◌, length, get_or, take, drop, sym, refl, ap, ◌∙◌, subst, ap₂, add-one, arith, length-append, length-drop, drop-cons}
-use Rattle.std.specs.List.{AllByRecursion as All}
+use Rattle.std.proofs.Common.{◌≡◌, ℕ, suc, ◌+◌, ◌-◌, ◌*◌, ◌<◌, ◌≤◌, List, [], ◌∷◌, ◌++◌, length, get_or, take, drop, sym, refl, ap, ◌∙◌, subst, ap₂, add-one, arith, length-append, length-drop, drop-cons}
 use Rattle.std.proofs.ByRecursion.{All-get_or}
 use Rattle.std.proofs.lemmas.List.{take_at, drop_at, drop-drop, take_more}
 use Rattle.page.specs.Edits.{Edit, add_layer}
 use Rattle.page.specs.Fits.{Fits}
-use Rattle.codec.specs.Meaning.{edit_of}
 use Rattle.codec.specs.Written.{written}
 use Rattle.codec.specs.Files.{all_written, Built}
 use Rattle.codec.specs.Laws.{EditBytes}

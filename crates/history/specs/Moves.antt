@@ -1,6 +1,5 @@
 -- What a turn makes of the canvas, the counts of edits and the lent bytes. Assumes nothing.
 use Rattle.std.specs.Prelude.{◌≡◌, ℕ, ◌+◌, ◌*◌, ◌≤◌, List, length}
-use Rattle.page.specs.Edits.{Edit}
 use Rattle.page.specs.History.{Turn, turned}
 use Rattle.canvas.specs.declared.state.Canvas.{Canvas}
 use Rattle.history.specs.declared.moves.Counts.{Counts}

@@ -1,6 +1,6 @@
 -- The history read off the slots of the turns. Assumes nothing.
 -- Slot k begins at 8192 k with an edit's bytes. The first slots hold the done edits, from the first; the undone ones, the next to redo first, are behind them.
-use Rattle.std.specs.Prelude.{◌≡◌, ℕ, zero, suc, ◌+◌, ◌*◌, ◌<◌, ◌≤◌, List, [], ◌∷◌, length, drop, ◌≢◌}
+use Rattle.std.specs.Prelude.{◌≡◌, ℕ, zero, suc, ◌*◌, List, [], ◌∷◌, length, drop, ◌≢◌}
 use Rattle.std.specs.List.{AllByRecursion as All}
 use Rattle.page.specs.Edits.{Page, Edit, blank, after}
 use Rattle.page.specs.Fits.{Fits}

@@ -1,8 +1,8 @@
 -- Lists of edits: one put in behind the first d, bytes that grow, and the history that a list is. Assumes nothing.
-use Rattle.std.proofs.Common.{◌≡◌, ℕ, zero, suc, ◌+◌, ◌-◌, ◌<◌, ◌≤◌, true, List, [], ◌∷◌, ◌++◌, map, length, get_or, take, drop, sym, refl, ap, ◌∙◌, subst, ap₂, add-one, arith, length-append, drop-cons}
+use Rattle.std.proofs.Common.{◌≡◌, ℕ, zero, suc, ◌+◌, ◌-◌, ◌<◌, ◌≤◌, true, List, [], ◌∷◌, ◌++◌, length, get_or, take, drop, sym, refl, ap, ◌∙◌, subst, ap₂, add-one, arith, length-append, drop-cons}
 use Rattle.std.specs.List.{AllByRecursion as All}
 use Rattle.std.proofs.ByRecursion.{All-from_get_or, All-get_or, All-weaker, All-take, All-drop, All-push}
-use Rattle.std.proofs.lemmas.List.{append-nil, map_more, map-append, take_all, drop_all, length-take-le}
+use Rattle.std.proofs.lemmas.List.{map_more, map-append, take_all, drop_all, length-take-le}
 use Rattle.page.specs.Edits as page
 use Rattle.page.specs.History.{History, in_order, turned, undone_once, redone_once, does, undo, redo}
 use Rattle.page.specs.Fits.{Fits, kind}

@@ -1,5 +1,5 @@
 -- The text of an engine's edits, piece after piece; and what is printed of its page. Assumes nothing.
-use Rattle.std.proofs.Common.{◌≡◌, ℕ, ◌*◌, ◌<◌, ◌≤◌, true, ◌&&◌, ltb, leb, List, [], ◌++◌, length, take, drop, Ok, vec_items, codes, sym, ap, ◌∙◌, subst, ap₂, arith}
+use Rattle.std.proofs.Common.{◌≡◌, ℕ, ◌*◌, ◌<◌, ◌≤◌, ◌&&◌, List, [], ◌++◌, length, take, drop, Ok, vec_items, codes, sym, ap, ◌∙◌, ap₂, arith}
 use Rattle.std.specs.List.{flat_map}
 use Rattle.codec.specs.declared.edits.Edit.{Edit}
 use Rattle.std.proofs.lemmas.Bool.{lt-ltb, le-leb, cond-true}
@@ -10,7 +10,7 @@ use Rattle.words.specs.Printing.{printed}
 use Rattle.words.proofs.Pieces.{both_added, printed_same}
 use Rattle.reference.specs.declared.state.Engine.{Engine}
 use Rattle.reference.specs.Lists.{meanings}
-use Rattle.reference.specs.Making.{seen_at, Replayed}
+use Rattle.reference.specs.Making.{seen_at}
 use Rattle.reference.specs.Turning.{Remade, page_of}
 use Rattle.reference.specs.Shown.{or_white, edit_line, edits_text}
 use Rattle.page.proofs.Undo.{done_in_order}

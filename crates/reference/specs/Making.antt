@@ -1,5 +1,5 @@
 -- What the plain engine makes of a list of edits. Assumes nothing.
-use Rattle.std.specs.Prelude.{◌≡◌, ℕ, ◌*◌, ◌<◌, ◌≤◌, cond, ◌&&◌, List, length, Some, None, Option, nat_le, nat_lt}
+use Rattle.std.specs.Prelude.{◌≡◌, ℕ, ◌*◌, ◌<◌, cond, ◌&&◌, List, length, Some, None, Option, nat_le, nat_lt}
 use Rattle.pixel.specs.declared.Pixel.{Pixel}
 use Rattle.page.specs.Edits as page
 use Rattle.page.specs.Edits.{blank, after, seen}

@@ -1,7 +1,7 @@
 use Rattle.std.proofs.Common.{◌≡◌, ℕ, ◌+◌, ◌*◌, ◌≤◌, length, None, sym, refl, ◌∙◌, arith}
 use Rattle.std.proofs.lemmas.Bool.Decides.{nat_tests}
 use Rattle.editor.specs.declared.state.Editor.{Editor}
-use Rattle.editor.specs.Promises.{against, pixels}
+use Rattle.editor.specs.Promises.{against}
 use Rattle.editor.proofs.editing.turn.Goals as goal
 
 -- where nothing is against a turn there are bytes enough

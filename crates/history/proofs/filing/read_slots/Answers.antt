@@ -1,9 +1,8 @@
-use Rattle.std.proofs.Common.{◌≡◌, ℕ, ◌+◌, ◌-◌, ◌*◌, ◌<◌, ◌≤◌, List, length, take, drop, sym, ap, ◌∙◌, subst, arith, length-drop}
+use Rattle.std.proofs.Common.{◌≡◌, ℕ, ◌-◌, ◌<◌, ◌≤◌, List, length, take, drop, sym, ap, ◌∙◌, arith, length-drop}
 use Rattle.std.proofs.lemmas.List.{take_all, length-take-le}
 use Rattle.page.specs.Edits.{Edit}
 use Rattle.codec.specs.Read.{edit_and_end}
 use Rattle.codec.specs.Files.{all_written}
-use Rattle.codec.specs.Written.{written}
 use Rattle.codec.proofs.Writes.{written_short}
 use Rattle.history.specs.Slots.{edits_in, RowStands}
 use Rattle.history.proofs.Rows.{next, next_fits, next_end, next_in, next_bytes, next_rest, next_row}

@@ -1,6 +1,4 @@
-use Rattle.std.proofs.Common.{◌≡◌, ℕ, ◌+◌, ◌*◌, length, sym, ap, ◌∙◌, subst, arith}
-use Rattle.page.specs.Edits.{Edit}
-use Rattle.page.specs.Fits.{Fits}
+use Rattle.std.proofs.Common.{◌≡◌, ◌+◌, length, ap, ◌∙◌, arith}
 use Rattle.codec.specs.Meaning.{edit_of}
 use Rattle.codec.specs.Files.{all_written}
 use Rattle.codec.specs.Put.{put_at}

@@ -1,4 +1,4 @@
-use Rattle.std.proofs.Common.{◌≡◌, ◌*◌, ap, ap₂, arith}
+use Rattle.std.proofs.Common.{◌*◌, ap, ap₂, arith}
 use Rattle.codec.specs.Meaning.{edit_of}
 use Rattle.canvas.specs.Applying.{known}
 use Rattle.history.proofs.Histories.{bytes_short, did_edit}

@@ -1,4 +1,3 @@
-use Rattle.std.proofs.Common.{arith}
 use Rattle.history.proofs.Histories.{slot_put}
 use Rattle.history.proofs.slots.put_slot.Goals as goal
 

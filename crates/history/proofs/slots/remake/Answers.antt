@@ -1,4 +1,4 @@
-use Rattle.std.proofs.Common.{◌≡◌, ◌*◌, sym, ◌∙◌, ap₂, subst₂, arith}
+use Rattle.std.proofs.Common.{◌*◌, sym, ◌∙◌, ap₂, subst₂, arith}
 use Rattle.page.specs.Agree.{Agree}
 use Rattle.canvas.specs.View.{view}
 use Rattle.history.specs.Slots.{latest_in, made_by}

@@ -1,11 +1,10 @@
-use Rattle.std.proofs.Common.{◌≡◌, ℕ, ◌*◌, ◌≤◌, get_or, take, sym, ap, ◌∙◌, subst, ap₂, arith, take_all}
+use Rattle.std.proofs.Common.{◌≡◌, ◌*◌, get_or, take, ◌∙◌, subst, ap₂, arith, take_all}
 use Rattle.std.proofs.ByRecursion.{All-get_or}
 use Rattle.std.proofs.lemmas.Bool.{cond-true}
 use Rattle.page.specs.Edits as page
 use Rattle.page.specs.Edits.{blank, after, edited}
 use Rattle.page.specs.Agree.{Agree}
 use Rattle.canvas.specs.View.{view}
-use Rattle.codec.specs.declared.edits.Edit.{Edit}
 use Rattle.codec.specs.declared.edits.Edit.TheVariants.{AddLayer}
 use Rattle.codec.specs.Meaning.{edit_of}
 use Rattle.canvas.specs.Applying.{Built, known}

@@ -1,4 +1,4 @@
-use Rattle.std.proofs.Common.{◌≡◌, length, take}
+use Rattle.std.proofs.Common.{◌≡◌, take}
 use Rattle.page.specs.Edits.{blank, after}
 use Rattle.page.specs.Agree.{Agree}
 use Rattle.canvas.specs.View.{view}

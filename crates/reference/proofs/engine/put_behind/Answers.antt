@@ -1,4 +1,4 @@
-use Rattle.std.proofs.Common.{◌≡◌, ◌+◌, length, take, ap, ◌∙◌, arith}
+use Rattle.std.proofs.Common.{◌+◌, take, ap, ◌∙◌, arith}
 use Rattle.reference.proofs.Listing.{put_in_take}
 use Rattle.reference.proofs.engine.put_behind.Goals as goal
 

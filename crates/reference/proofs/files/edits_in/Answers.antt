@@ -1,4 +1,4 @@
-use Rattle.std.proofs.Common.{◌≡◌, ℕ, vec_items, vec_len, sym, refl, subst, subst₂, arith}
+use Rattle.std.proofs.Common.{◌≡◌, ℕ, vec_items, vec_len, sym, subst, subst₂, arith}
 use Rattle.reference.specs.Filing.{Listed}
 use Rattle.reference.proofs.Opening.{SoFar, none_read, read_more}
 use Rattle.reference.proofs.files.edits_in.Goals as goal

@@ -1,4 +1,4 @@
-use Rattle.std.proofs.Common.{◌≡◌, get_or, sym, ap, ◌∙◌, arith}
+use Rattle.std.proofs.Common.{get_or, sym, ap, ◌∙◌, arith}
 use Rattle.pixel.specs.Pixels.{white}
 use Rattle.page.specs.Layers.{layer_over}
 use Rattle.canvas.specs.View.{layer_of, no_entry}

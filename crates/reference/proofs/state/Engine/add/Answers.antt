@@ -1,5 +1,5 @@
 -- With the bytes behind the others: what was there means the same, and the edit read there is the one that they are.
-use Rattle.std.proofs.Common.{◌≡◌, ℕ, ◌+◌, ◌≤◌, List, [], ◌∷◌, ◌++◌, length, take, vec_items, sym, refl, ap, ◌∙◌, subst, ap₂, subst₂, arith}
+use Rattle.std.proofs.Common.{◌≡◌, ℕ, ◌+◌, List, ◌++◌, length, vec_items, sym, refl, ap, ◌∙◌, subst, ap₂, subst₂, arith}
 use Rattle.std.specs.List.{AllByRecursion as All}
 use Rattle.page.specs.Edits as page
 use Rattle.codec.specs.declared.edits.Edit.{Edit}
@@ -22,14 +22,14 @@ returns-in_err-extend_from_slice c =
     not_added _ _ _ _ c.from_residual.ensures.0
     (record { same_wide = refl; same_high = refl; same_taken = refl; history_is = ap (λ b. history_of b (vec_items s.edits) s.done) c.in_err-extend_from_slice.ensures.items })
 
-pub invariant_of-self-in-Break·-branch-2 : goal.invariant_of-self-in-Break·-branch-2
-invariant_of-self-in-Break·-branch-2 c =
+pub invariant_of-self-in-Break-branch-2 : goal.invariant_of-self-in-Break-branch-2
+invariant_of-self-in-Break-branch-2 c =
     let s = c.args.self.now in
     let bytes = c.in_ok-extend_from_slice.ensures.items in
     let edits = c.in_err-put_behind.ensures.items in
     let good : All (Good (vec_items c.extend_from_slice.new.self)) (vec_items c.put_behind.new.edits)
     = subst₂ (λ b e. All (Good b) e) (sym bytes) (sym edits) (all_grow (vec_items s.bytes) c.args.turn.now (vec_items s.edits) (good_of s)) in
-    (s.sized, ((omega (arith, s.counted, c.in_err-put_behind.ensures.len), omega (arith, s.counted, c.in_err-put_behind.ensures.len), s.counted.2), (good_built _ _ good, (good_reach _ _ good, (good_fits _ _ good, tt)))))
+    record { sized = s.sized; counted = (omega (arith, s.counted, c.in_err-put_behind.ensures.len), omega (arith, s.counted, c.in_err-put_behind.ensures.len), s.counted.2); kinds = good_built _ _ good; reaches = good_reach _ _ good; fit = good_fits _ _ good }
 
 pub returns-in_err-put_behind : goal.returns-in_err-put_behind
 returns-in_err-put_behind c =
@@ -62,7 +62,7 @@ invariant_of-self-2 c =
     = new_good (bs ++ turn) x.0 c.requires.is.0 (subst (λ (b : List ℕ). EditGood b x.0) is c.edit_at-edit.ensures.good) means c.requires.is.1.is_built in
     let good : All (Good (vec_items c.extend_from_slice.new.self)) (vec_items c.put_behind.new.edits)
     = subst₂ (λ b e. All (Good b) e) (sym bytes) (sym edits) (all_put bs turn (vec_items s.edits) s.done x.0 (good_of s) new) in
-    (s.sized, ((omega (arith, c.in_ok-put_behind.ensures.len), omega (arith, s.counted, c.in_ok-put_behind.ensures.len), omega (arith, c.requires.few)), (good_built _ _ good, (good_reach _ _ good, (good_fits _ _ good, tt)))))
+    record { sized = s.sized; counted = (omega (arith, c.in_ok-put_behind.ensures.len), omega (arith, s.counted, c.in_ok-put_behind.ensures.len), omega (arith, c.requires.few)); kinds = good_built _ _ good; reaches = good_reach _ _ good; fit = good_fits _ _ good }
 
 pub returns : goal.returns
 returns c = λ e b.

@@ -1,5 +1,5 @@
-use Rattle.std.proofs.Common.{◌≡◌, ◌++◌, take, drop, vec_items, codes, sym, ap, ◌∙◌, subst₂, arith}
-use Rattle.std.specs.List.{flat_map, AllByRecursion as All}
+use Rattle.std.proofs.Common.{take, drop, vec_items, sym, ap, ◌∙◌, subst₂}
+use Rattle.std.specs.List.{AllByRecursion as All}
 use Rattle.std.proofs.ByRecursion.{All-take, All-drop}
 use Rattle.codec.specs.Meaning.{Held}
 use Rattle.reference.proofs.Keeping.{all_held}

@@ -1,4 +1,4 @@
-use Rattle.std.proofs.Common.{◌≡◌, ℕ, List, [], vec_items, sym, ap, ◌∙◌, subst₂, arith}
+use Rattle.std.proofs.Common.{vec_items, sym, ◌∙◌, subst₂, arith}
 use Rattle.std.specs.List.{AllByRecursion as All}
 use Rattle.codec.specs.Meaning.{Held}
 use Rattle.reference.proofs.Keeping.{all_held, engine_pieces}

@@ -14,10 +14,8 @@ invariant_of-result c =
     let so = subst (λ (b : List ℕ). Listed b (f.done + f.undone) es) c.as_slice.ensures.value c.in-Ok.ensures in
     let good = all_opened bs c.requires.0 f taken es so in
     let long : length es ≡ f.done + f.undone = all_long bs c.requires.0 f taken es so in
-    let size = c.in-Ok.edits.ok.0 in (
-      (taken.is_file.wide.0, taken.is_file.wide.1, taken.is_file.high.0, taken.is_file.high.1),
-      ((omega arith, omega arith, taken.enough.few), (good_built bs es good, (good_reach bs es good, (good_fits bs es good, tt)))),
-    )
+    let size = c.in-Ok.edits.ok.0 in
+    record { sized = (taken.is_file.wide.0, taken.is_file.wide.1, taken.is_file.high.0, taken.is_file.high.1); counted = (omega arith, omega arith, taken.enough.few); kinds = good_built bs es good; reaches = good_reach bs es good; fit = good_fits bs es good }
 
 pub returns-in-Ok : goal.returns-in-Ok
 returns-in-Ok c =

@@ -1,4 +1,4 @@
-use Rattle.std.proofs.Common.{◌≡◌, ℕ, List, Err, vec_items, Result, sym, refl, ap, ◌∙◌, subst}
+use Rattle.std.proofs.Common.{ℕ, List, Err, vec_items, Result, refl, ap, ◌∙◌, subst}
 use Rattle.codec.specs.declared.edits.Refusal.{Refusal}
 use Rattle.codec.specs.declared.file.File.{File}
 use Rattle.codec.specs.Files.{read_file}

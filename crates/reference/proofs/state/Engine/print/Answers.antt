@@ -1,4 +1,4 @@
-use Rattle.std.proofs.Common.{◌≡◌, length, vec_len, ◌∙◌, arith}
+use Rattle.std.proofs.Common.{◌≡◌, length, vec_len, ◌∙◌}
 use Rattle.std.proofs.lemmas.List.{take_at}
 use Rattle.std.proofs.lemmas.Result.{IfOk-weaker}
 use Rattle.reference.proofs.Texts.{prints_page}

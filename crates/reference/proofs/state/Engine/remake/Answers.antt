@@ -1,10 +1,9 @@
-use Rattle.std.proofs.Common.{◌≡◌, ℕ, ◌-◌, ◌*◌, List, [], take, vec_items, sym, refl, ap, ◌∙◌, subst, ap₂, subst₂, arith}
+use Rattle.std.proofs.Common.{◌≡◌, ◌-◌, List, [], take, vec_items, sym, ap, ◌∙◌, subst, ap₂, subst₂, arith}
 use native.Mathlib.Nat.{sub-zero}
 use Rattle.std.specs.List.{AllByRecursion as All}
 use Rattle.std.proofs.ByRecursion.{All-take, All-weaker}
 use Rattle.page.specs.Edits as page
 use Rattle.page.specs.History.{in_order}
-use Rattle.codec.specs.declared.edits.Edit.{Edit}
 use Rattle.canvas.specs.Applying.{Built}
 use Rattle.reference.specs.Lists.{meanings}
 use Rattle.reference.specs.Making.{Replayed}
