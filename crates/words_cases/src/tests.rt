@@ -106,6 +106,6 @@ fn text(rt: HostRuntime) -> Result<(), Fail> {
     )?;
     write_number(0, &mut out)?;
     write_number(4294967295, &mut out)?;
-    assert!(rt; out.as_slice() == b"ff0a0004294967295");
+    assert!(rt; out.as_slice() == b"ff0a0004294967295".as_slice());
     Ok(())
 }

@@ -74,7 +74,7 @@ fn undone_and_redone(rt: HostRuntime) -> Result<(), Fail> {
     plays(&rt, heap, &mut engine, "undo", "", WHITE)?;
     plays(&rt, heap, &mut engine, "redo", "", RED)?;
     let ppm = engine.print(heap, Format::Ppm)?;
-    assert!(rt; ppm.as_slice() == b"P6\n3 1\n255\n\xff\xff\xff\xff\x00\x00\xff\xff\xff");
+    assert!(rt; ppm.as_slice() == b"P6\n3 1\n255\n\xff\xff\xff\xff\x00\x00\xff\xff\xff".as_slice());
     Ok(())
 }
 
@@ -102,7 +102,7 @@ fn kept_in_a_file(rt: HostRuntime) -> Result<(), Fail> {
     let file = engine.file(heap)?;
     assert!(rt;
         file.as_slice()
-            == b"PAGE\x03\x00\x01\x00\x01\x00\x00\x00\x01\x00\x00\x00\x09\x01\x00\x00\x00\x01\x00\x01\x00\x0c\xff\x00\x00\xff"
+            == b"PAGE\x03\x00\x01\x00\x01\x00\x00\x00\x01\x00\x00\x00\x09\x01\x00\x00\x00\x01\x00\x01\x00\x0c\xff\x00\x00\xff".as_slice()
     );
     match opened(heap, file.as_slice())? {
         Err(_) => Err(Fail::new("the file is refused")),
