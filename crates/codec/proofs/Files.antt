@@ -2,7 +2,7 @@
 use Rattle.std.proofs.Common.{◌≡◌, ℕ, zero, suc, ◌+◌, ◌*◌, ◌/◌, ◌%◌, ◌<◌, ◌≤◌, cond, eqb, ltb, leb, ◌⊎◌, List, [], ◌∷◌, ◌++◌, length, get_or, drop, None, Ok, Err, Option, Result, sym, refl, ap, ◌∙◌, subst, inl, inr, arith, MatchResult}
 use Rattle.std.proofs.lemmas.List.{append-nil, drop_all, drop_at, length-append}
 use Rattle.std.proofs.lemmas.Bool.{ltb-true, ltb-false, leb-true, le-leb, le-ltb, eq-eqb, eqb-true, eqb-false, ne_eqb, cond_both, cond-true, cond-false}
-use Rattle.std.specs.List.{AllByRecursion as All}
+use Rattle.std.specs.List.{AllByRecursion}
 use Rattle.page.specs.Edits as page
 use Rattle.codec.specs.declared.edits.Refusal.{Refusal}
 use Rattle.codec.specs.declared.edits.Refusal.TheVariants.{NotPage}
@@ -99,7 +99,7 @@ module _ (bs : List ℕ) (lent : Lengths) (w h : ℕ) (done undone : List page.E
   abbrev Whole : End → Type 0
   Whole x =
       MatchResult x (λ n. n ≡ length bs)
-      (λ g. ((4 ≤ number g) × (Enough lent w h (length done + length undone) → ⊥)) ⊎ ((number g ≡ 3) × (All Built done → All Built undone → ⊥)))
+      (λ g. ((4 ≤ number g) × (Enough lent w h (length done + length undone) → ⊥)) ⊎ ((number g ≡ 3) × (AllByRecursion Built done → AllByRecursion Built undone → ⊥)))
 
   second_row : (n : ℕ) (x : End) → n ≡ 16 + length (all_written done) → Scanned lent.turns (length done) undone n x → Whole x
   second_row n (Ok m) is s = omega (arith, size)

@@ -2,7 +2,7 @@
 use Rattle.std.proofs.Common.{◌≡◌, ℕ, zero, suc, ◌+◌, ◌-◌, ◌*◌, ◌<◌, ◌≤◌, Bool, true, false, cond, ltb, leb, ◌⊎◌, List, [], ◌∷◌, ◌++◌, length, get_or, drop, Some, None, Ok, Err, Option, sym, refl, ap, ◌∙◌, subst, inl, inr, add-zero, suc-add, zero-add, arith, MatchResult}
 use Rattle.std.proofs.lemmas.List.{append_assoc, drop_at, get_or-drop, length-append}
 use Rattle.std.proofs.lemmas.Bool.{ltb-true, ltb-false, leb-true, leb-false, cond_both, both_ways}
-use Rattle.std.specs.List.{AllByRecursion as All}
+use Rattle.std.specs.List.{AllByRecursion}
 use Rattle.page.specs.Edits as page
 use Rattle.page.specs.Fits.{Fits, kind}
 use Rattle.codec.specs.declared.edits.Edit.{Edit}
@@ -80,8 +80,8 @@ of_against turns k at e =
 -- c edits es stand from `at` to n, the first after k others
 pub record Row (bs : List ℕ) (turns k c at n : ℕ) (es : List page.Edit) (end : ℕ) : Type 0 where
   pub stands : drop at bs ≡ all_written es ++ drop n bs
-  pub fits : All Fits es
-  pub are_built : All Built es
+  pub fits : AllByRecursion Fits es
+  pub are_built : AllByRecursion Built es
   pub ends : end ≡ n
   pub few : k + c ≤ 65536
   pub for_turns : 8192 * (k + c) ≤ turns
@@ -114,7 +114,7 @@ edits_read bs fit turns (suc c) k at n few room e =
 
 -- edits that are written are those that are read there
 pub from_written :
-    (bs : List ℕ) (es : List page.Edit) (at : ℕ) (rest : List ℕ) → All Fits es → drop at bs ≡ all_written es ++ rest →
+    (bs : List ℕ) (es : List page.Edit) (at : ℕ) (rest : List ℕ) → AllByRecursion Fits es → drop at bs ≡ all_written es ++ rest →
     (edits_from bs at (length es) ≡ es) × (after_edits bs at (length es) ≡ at + length (all_written es))
 from_written bs [] at rest fits d = (refl, omega arith)
 from_written bs (e ∷ es) at rest fits d =
@@ -133,7 +133,7 @@ from_written bs (e ∷ es) at rest fits d =
 abbrev pub Scanned : ℕ → ℕ → List page.Edit → ℕ → End → Type 0
 Scanned turns k es at x =
     MatchResult x (λ n. n ≡ at + length (all_written es))
-    (λ f. ((4 ≤ number f) × (k + length es ≤ 65536 → 8192 * (k + length es) ≤ turns → ⊥)) ⊎ ((number f ≡ 3) × (All Built es → ⊥)))
+    (λ f. ((4 ≤ number f) × (k + length es ≤ 65536 → 8192 * (k + length es) ≤ turns → ⊥)) ⊎ ((number f ≡ 3) × (AllByRecursion Built es → ⊥)))
 
 scanned_more :
     (turns k at : ℕ) (e : page.Edit) (es : List page.Edit) (x : End) → Scanned turns (k + 1) es (at + length (written e)) x → Scanned turns k (e ∷ es) at x
@@ -142,7 +142,7 @@ scanned_more turns k at e es (Err f) (inl h) = inl (h.0, λ few room. h.1 (omega
 scanned_more turns k at e es (Err f) (inr h) = inr (h.0, λ b. h.1 b.1)
 
 pub edits_written :
-    (bs : List ℕ) (turns : ℕ) (es : List page.Edit) (k at : ℕ) (rest : List ℕ) → All Fits es → drop at bs ≡ all_written es ++ rest →
+    (bs : List ℕ) (turns : ℕ) (es : List page.Edit) (k at : ℕ) (rest : List ℕ) → AllByRecursion Fits es → drop at bs ≡ all_written es ++ rest →
     Scanned turns k es at (edits_end bs turns k (length es) at)
 edits_written bs turns [] k at rest fits d = omega arith
 edits_written bs turns (e ∷ es) k at rest fits d =

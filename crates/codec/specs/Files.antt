@@ -1,6 +1,6 @@
 -- The bytes that write a file, and how bytes are read as one. Assumes nothing.
 use Rattle.std.specs.Prelude.{◌≡◌, ℕ, zero, suc, ◌+◌, ◌*◌, ◌/◌, ◌%◌, ◌<◌, ◌≤◌, true, cond, List, [], ◌∷◌, ◌++◌, length, Some, None, Ok, Err, Option, Result, ◌==◌, nat_le, nat_lt, slice_index}
-use Rattle.std.specs.List.{flat_map, AllByRecursion as All}
+use Rattle.std.specs.List.{flat_map, AllByRecursion}
 use Rattle.page.specs.Edits as page
 use Rattle.page.specs.Fits.{Fits, kind}
 use Rattle.codec.specs.declared.edits.Lent.TheVariants.{Turns, Tiles, Work}
@@ -31,7 +31,7 @@ file_written w h done undone = file_head w h (length done) (length undone) ++ (a
 pub record IsFile (bs : List ℕ) (w h : ℕ) (done undone : List page.Edit) : Type 0 where
   pub wide : (1 ≤ w) × (w ≤ 4096)
   pub high : (1 ≤ h) × (h ≤ 4096)
-  pub fit : All Fits done × All Fits undone
+  pub fit : AllByRecursion Fits done × AllByRecursion Fits undone
   pub few : (length done < 4294967296) × (length undone < 4294967296)
   pub is : bs ≡ file_written w h done undone
 

@@ -7,7 +7,7 @@ ghost use Rattle.codec.specs.Put.{put_at, head_of, tail_of, file_of, file_put, f
 ghost use Rattle.codec.specs.Scan.{end_of, edit_at};
 ghost use Rattle.codec.specs.Files.{file_head, all_written};
 ghost use Rattle.codec.specs.Laws.{EditGood};
-ghost use Rattle.std.specs.List.{AllByRecursion as All};
+ghost use Rattle.std.specs.List.{AllByRecursion};
 
 use crate::edits::{Edit, Filter, Lent, Refusal};
 use crate::file::File;
@@ -205,7 +205,7 @@ pub fn append_edit(out: &mut Vec<u8>, edit: Edit, source: &[u8]) -> Result<(), A
 
 // Adds the edits one after the other. Without memory for all of them, a part may have been added.
 fn append_edits(out: &mut Vec<u8>, edits: &[Edit], source: &[u8]) -> Result<(), AllocError>
-    requires { All (Held source.now) edits.now }
+    requires { AllByRecursion (Held source.now) edits.now }
     ensures { OnOk result (out.new.items ≡ out.old.items ++ all_written (map (edit_of source.now) edits.now)) }
 {
     for edit in edits {
@@ -223,7 +223,7 @@ pub fn append_file(
     done: usize,
     source: &[u8],
 ) -> Result<(), AllocError>
-    requires held { All (Held source.now) edits.now }
+    requires held { AllByRecursion (Held source.now) edits.now }
     requires few { (length edits.now ≤ 65536) × (done ≤ length edits.now) }
     ensures { OnOk result (out.new.items ≡ out.old.items ++ file_of source.now width height edits.now done) }
 {
@@ -239,7 +239,7 @@ pub fn append_file(
 
 // Writes the edits one after the other from `start` on, and says where they end.
 fn write_edits(out: &mut [u8], start: usize, edits: &[Edit], source: &[u8]) -> usize
-    requires good { All (EditGood source.now) edits.now }
+    requires good { AllByRecursion (EditGood source.now) edits.now }
     requires room { start + 8192 * length edits.now ≤ length out.old }
     ensures after { out.new ≡ put_at out.old start (all_written (map (edit_of source.now) edits.now)) }
     ensures end { result ≡ start + length (all_written (map (edit_of source.now) edits.now)) }
@@ -260,7 +260,7 @@ pub fn write_file(
     done: usize,
     source: &[u8],
 ) -> Result<usize, Refusal>
-    requires good { All (EditGood source.now) edits.now }
+    requires good { AllByRecursion (EditGood source.now) edits.now }
     requires few { (length edits.now ≤ 65536) × (done ≤ length edits.now) }
     ensures after { out.new ≡ file_put out.old (file_of source.now width height edits.now done) edits.now }
     ensures answer { result ≡ file_answer out.old (file_of source.now width height edits.now done) edits.now }

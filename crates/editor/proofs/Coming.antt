@@ -1,6 +1,6 @@
 -- What always holds of a desk that came about, and so the main theorem. Assumes nothing.
 use Rattle.std.proofs.Common.{◌≡◌, ℕ, zero, suc, ◌+◌, ◌*◌, ◌<◌, ◌≤◌, Bool, true, cond, ◌&&◌, eqb, ltb, leb, List, [], ◌∷◌, ◌++◌, length, get_or, take, drop, Some, None, Ok, Err, Option, Result, sym, refl, ap, ◌∙◌, subst, ap₂, arith, length-append}
-use Rattle.std.specs.List.{AllByRecursion as All}
+use Rattle.std.specs.List.{AllByRecursion}
 use Rattle.std.proofs.ByRecursion.{All-weaker}
 use Rattle.std.proofs.lemmas.List.{take_at}
 use Rattle.std.proofs.lemmas.Result.{MatchResult-at_ok}
@@ -34,13 +34,13 @@ abbrev pub Good : Edit → Type 0
 Good e = Fits e × Built e
 
 abbrev pub HistoryGood : History → Type 0
-HistoryGood b = All Good b.done × All Good b.undone
+HistoryGood b = AllByRecursion Good b.done × AllByRecursion Good b.undone
 
-undone_good : (es : List Edit) (b : History) → All Good es → HistoryGood b → HistoryGood (model.undone_once es b)
+undone_good : (es : List Edit) (b : History) → AllByRecursion Good es → HistoryGood b → HistoryGood (model.undone_once es b)
 undone_good [] b a g = g
 undone_good (e ∷ es) b a g = (a.1, (a.0, g.1))
 
-redone_good : (es : List Edit) (b : History) → All Good es → HistoryGood b → HistoryGood (model.redone_once es b)
+redone_good : (es : List Edit) (b : History) → AllByRecursion Good es → HistoryGood b → HistoryGood (model.redone_once es b)
 redone_good [] b a g = g
 redone_good (e ∷ es) b a g = ((a.0, g.0), a.1)
 
@@ -131,11 +131,11 @@ pub length-in_order : (xs ys : List Edit) → length (in_order xs ys) ≡ length
 length-in_order [] ys = omega arith
 length-in_order (x ∷ xs) ys = omega (arith, length-in_order xs (x ∷ ys))
 
-pub all_in_order : (P : Edit → Type 0) (xs ys : List Edit) → All P xs → All P ys → All P (in_order xs ys)
+pub all_in_order : (P : Edit → Type 0) (xs ys : List Edit) → AllByRecursion P xs → AllByRecursion P ys → AllByRecursion P (in_order xs ys)
 all_in_order P [] ys a b = b
 all_in_order P (x ∷ xs) ys a b = all_in_order P xs (x ∷ ys) a.1 (a.0, b)
 
-all_fit : (es : List Edit) → All Good es → All Fits es
+all_fit : (es : List Edit) → AllByRecursion Good es → AllByRecursion Fits es
 all_fit es a = All-weaker Good Fits (λ e g. g.0) es a
 
 -- the file of an editor whose edits fit is one

@@ -1,6 +1,6 @@
 -- The main promise, from the contracts alone. Assumes nothing.
 use Rattle.std.proofs.Common.{◌≡◌, ℕ, ◌+◌, ◌*◌, ◌<◌, ◌≤◌, Bool, true, cond, leb, List, [], ◌∷◌, ◌++◌, length, None, Ok, Err, Option, Result, sym, refl, ap, ◌∙◌, subst, append_assoc, arith, length-append, MatchResult}
-use Rattle.std.specs.List.{AllByRecursion as All}
+use Rattle.std.specs.List.{AllByRecursion}
 use Rattle.std.proofs.ByRecursion.{All-weaker}
 use Rattle.std.proofs.lemmas.List.{append-nil}
 use Rattle.std.proofs.lemmas.Bool.{le-leb, cond-true}
@@ -65,7 +65,7 @@ made_ok : (m : Lent) (s : Editor) (d : Desk) (r : Result Editor Refusal) → Mad
 made_ok m s d r made e = e ∙ ap (λ (x : Editor). let y : Result Editor Refusal = Ok x in y) (sym made.editor_is)
 
 -- a desk's own file is read, where enough is lent for its edits
-all_built : (es : List Edit) → All Good es → All Built es
+all_built : (es : List Edit) → AllByRecursion Good es → AllByRecursion Built es
 all_built es a = All-weaker Good Built (λ e g. g.1) es a
 
 file_reads : (w h : ℕ) (ts : List Turn) (d : Desk) (bs : List ℕ) (m : Lent) → Stands w h ts d → bs ≡ file_of d.editor d.turns → EnoughLent w h (length ts) m → length ts ≤ 65536 →

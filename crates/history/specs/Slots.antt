@@ -1,7 +1,7 @@
 -- The history read off the slots of the turns. Assumes nothing.
 -- Slot k begins at 8192 k with an edit's bytes. The first slots hold the done edits, from the first; the undone ones, the next to redo first, are behind them.
 use Rattle.std.specs.Prelude.{◌≡◌, ℕ, zero, suc, ◌*◌, List, [], ◌∷◌, length, drop, ◌≢◌}
-use Rattle.std.specs.List.{AllByRecursion as All}
+use Rattle.std.specs.List.{AllByRecursion}
 use Rattle.page.specs.Edits.{Page, Edit, blank, after}
 use Rattle.page.specs.Fits.{Fits}
 use Rattle.page.specs.History.{History, in_order}
@@ -66,5 +66,5 @@ pub record SlotPut (bs : List ℕ) (k : ℕ) (turns turns' : List ℕ) : Type 0 
 -- the bytes from `at` on are the writing of these edits and nothing else
 pub record RowStands (bs : List ℕ) (at : ℕ) (es : List Edit) : Type 0 where
   pub is : drop at bs ≡ all_written es
-  pub fit : All Fits es
-  pub are_built : All Built es
+  pub fit : AllByRecursion Fits es
+  pub are_built : AllByRecursion Built es

@@ -1,7 +1,7 @@
 // What a turn that is taken does: undo and redo make the page anew; a new edit is kept in its slot and applied.
 ghost use Rattle.std.specs.Prelude.{◌≡◌, ℕ, ◌+◌, ◌*◌, ◌≤◌, length};
 ghost use Rattle.page.specs.Edits.{Edit as Model};
-ghost use Rattle.page.specs.History.{undo as model-undo, redo as model-redo, does};
+ghost use Rattle.page.specs.History.{undo as model_undo, redo as model_redo, does};
 ghost use Rattle.codec.specs.Laws.{EditBytes};
 ghost use Rattle.history.specs.Moves.{Moved, Lends};
 
@@ -21,7 +21,7 @@ pub struct Counts {
 // Takes back the last edit that is done, if there is one.
 pub fn undo(canvas: &mut Canvas, counts: Counts, turns: &[u8], tiles: &mut [u8]) -> Counts
     requires { Lends canvas.old counts turns.now tiles.old }
-    ensures { Moved model-undo canvas.old counts turns.now tiles.old canvas.new result turns.now tiles.new }
+    ensures { Moved model_undo canvas.old counts turns.now tiles.old canvas.new result turns.now tiles.new }
 {
     if counts.done == 0 {
         return counts;
@@ -37,7 +37,7 @@ pub fn undo(canvas: &mut Canvas, counts: Counts, turns: &[u8], tiles: &mut [u8])
 // Does again the last edit that was undone, if there is one.
 pub fn redo(canvas: &mut Canvas, counts: Counts, turns: &[u8], tiles: &mut [u8]) -> Counts
     requires { Lends canvas.old counts turns.now tiles.old }
-    ensures { Moved model-redo canvas.old counts turns.now tiles.old canvas.new result turns.now tiles.new }
+    ensures { Moved model_redo canvas.old counts turns.now tiles.old canvas.new result turns.now tiles.new }
 {
     if counts.undone == 0 {
         return counts;

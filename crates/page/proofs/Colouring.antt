@@ -1,6 +1,6 @@
 -- All parts of colours stay below 256, in every layer, in the clipboard and in what is seen, whatever edits that fit come to pass. Assumes nothing.
 use Rattle.std.proofs.Common.{◌≡◌, ℕ, zero, suc, ◌-◌, ◌*◌, ◌≤◌, Bool, true, false, cond, ◌&&◌, eqb, ltb, leb, List, [], ◌∷◌, get_or, arith}
-use Rattle.std.specs.List.{AllByRecursion as All}
+use Rattle.std.specs.List.{AllByRecursion}
 use Rattle.std.proofs.lemmas.Bool.{ltb-true, cond_both}
 use Rattle.std.proofs.ByRecursion.{All-set}
 use Rattle.page.specs.Layers.{Picture, Layer, clear_layer, layer_over, composite, put_in, without}
@@ -22,30 +22,30 @@ record LayerFits (l : Layer) : Type 0 where
   opacity_fits : l.opacity ≤ 255
 
 record PageFits (p : Page) : Type 0 where
-  layers_fit : All LayerFits p.layers
+  layers_fit : AllByRecursion LayerFits p.layers
   selected_fits : (i j : ℕ) → p.selected i j ≤ 255
   clipboard_fits : PictureFits p.clipboard
 
 clear_layer_fits : LayerFits clear_layer
 clear_layer_fits = record { pixels_fit = λ i j. clear_fits; opacity_fits = omega arith }
 
-composite_fits : (ls : List Layer) (f : Picture) → All LayerFits ls → PictureFits f → PictureFits (composite ls f)
+composite_fits : (ls : List Layer) (f : Picture) → AllByRecursion LayerFits ls → PictureFits f → PictureFits (composite ls f)
 composite_fits [] f a s = s
 composite_fits (l ∷ ls) f a s =
     composite_fits ls (λ i j. layer_over l i j (f i j)) a.1
     (λ i j. cond_fits l.visible _ (f i j) (pixel_over_fits l.mode l.opacity (l.pixels i j) (f i j) a.0.opacity_fits (a.0.pixels_fit i j) (s i j)) (s i j))
 
-layer_fits_at : (ls : List Layer) (k : ℕ) → All LayerFits ls → LayerFits (get_or ls k clear_layer)
+layer_fits_at : (ls : List Layer) (k : ℕ) → AllByRecursion LayerFits ls → LayerFits (get_or ls k clear_layer)
 layer_fits_at [] k a = clear_layer_fits
 layer_fits_at (l ∷ ls) zero a = a.0
 layer_fits_at (l ∷ ls) (suc k) a = layer_fits_at ls k a.1
 
-put_in_fits : (k : ℕ) (l : Layer) (ls : List Layer) → LayerFits l → All LayerFits ls → All LayerFits (put_in k l ls)
+put_in_fits : (k : ℕ) (l : Layer) (ls : List Layer) → LayerFits l → AllByRecursion LayerFits ls → AllByRecursion LayerFits (put_in k l ls)
 put_in_fits zero l ls f a = (f, a)
 put_in_fits (suc k) l [] f a = (f, tt)
 put_in_fits (suc k) l (m ∷ ms) f a = (a.0, put_in_fits k l ms f a.1)
 
-without_fits : (k : ℕ) (ls : List Layer) → All LayerFits ls → All LayerFits (without k ls)
+without_fits : (k : ℕ) (ls : List Layer) → AllByRecursion LayerFits ls → AllByRecursion LayerFits (without k ls)
 without_fits k [] a = tt
 without_fits zero (l ∷ ls) a = a.1
 without_fits (suc k) (l ∷ ls) a = (a.0, without_fits k ls a.1)
@@ -55,7 +55,7 @@ module _ (p : Page) (s : PageFits p) where
   top_fits : LayerFits (active_layer p)
   top_fits = layer_fits_at p.layers p.active s.layers_fit
 
-  layers_done : (ls : List Layer) (k : ℕ) → All LayerFits ls → PageFits (with_layers p ls k)
+  layers_done : (ls : List Layer) (k : ℕ) → AllByRecursion LayerFits ls → PageFits (with_layers p ls k)
   layers_done ls k a = record { layers_fit = a; selected_fits = s.selected_fits; clipboard_fits = s.clipboard_fits }
 
   layer_done : (l : Layer) → LayerFits l → PageFits (with_layer p l)
@@ -113,20 +113,20 @@ module _ (p : Page) (s : PageFits p) where
       painted_done (pasted p x y) (λ i j. cond_fits ((leb x i && leb y j) && (ltb (i - x) p.wide && ltb (j - y) p.high)) _ _
       (cond_fits (eqb (p.clipboard (i - x) (j - y)).alpha 0) _ _ (top_fits.pixels_fit i j) (s.clipboard_fits (i - x) (j - y))) (top_fits.pixels_fit i j))
 
-after_fits : (p : Page) (es : List Edit) → PageFits p → All Fits es → PageFits (after p es)
+after_fits : (p : Page) (es : List Edit) → PageFits p → AllByRecursion Fits es → PageFits (after p es)
 after_fits p [] s a = s
 after_fits p (e ∷ es) s a = after_fits (edited p e) es (edit_fits p s e a.0) a.1
 
 -- the edits of a history all fit
 record HistoryFits (b : History) : Type 0 where
-  done_fit : All Fits b.done
-  undone_fit : All Fits b.undone
+  done_fit : AllByRecursion Fits b.done
+  undone_fit : AllByRecursion Fits b.undone
 
-undo_fits : (es : List Edit) (b : History) → All Fits es → HistoryFits b → HistoryFits (undone_once es b)
+undo_fits : (es : List Edit) (b : History) → AllByRecursion Fits es → HistoryFits b → HistoryFits (undone_once es b)
 undo_fits [] b a s = s
 undo_fits (e ∷ es) b a s = record { done_fit = a.1; undone_fit = (a.0, s.undone_fit) }
 
-redo_fits : (es : List Edit) (b : History) → All Fits es → HistoryFits b → HistoryFits (redone_once es b)
+redo_fits : (es : List Edit) (b : History) → AllByRecursion Fits es → HistoryFits b → HistoryFits (redone_once es b)
 redo_fits [] b a s = s
 redo_fits (e ∷ es) b a s = record { done_fit = (a.0, s.done_fit); undone_fit = a.1 }
 
@@ -136,7 +136,7 @@ turns_fit built b (does e ∷ ts) a s = turns_fit built _ ts a.2 (record { done_
 turns_fit built b (undo ∷ ts) a s = turns_fit built _ ts a (undo_fits b.done b s.done_fit s)
 turns_fit built b (redo ∷ ts) a s = turns_fit built _ ts a (redo_fits b.undone b s.undone_fit s)
 
-in_order_fits : (xs es : List Edit) → All Fits xs → All Fits es → All Fits (in_order xs es)
+in_order_fits : (xs es : List Edit) → AllByRecursion Fits xs → AllByRecursion Fits es → AllByRecursion Fits (in_order xs es)
 in_order_fits [] es a b = b
 in_order_fits (x ∷ xs) es a b = in_order_fits xs (x ∷ es) a.1 (a.0, b)
 

@@ -1,6 +1,6 @@
 -- What an engine writes is opened as the same page. Assumes nothing.
 use Rattle.std.proofs.Common.{◌≡◌, ℕ, ◌+◌, List, [], ◌++◌, length, take, drop, Ok, Err, vec_items, vec_len, Result, sym, refl, ap, ◌∙◌, subst, ap₂, arith, length-drop, MatchResult}
-use Rattle.std.specs.List.{AllByRecursion as All}
+use Rattle.std.specs.List.{AllByRecursion}
 use Rattle.std.proofs.ByRecursion.{All-map, All-take, All-drop, All-weaker}
 use Rattle.std.proofs.lemmas.List.{length-map, length-take-le}
 use Rattle.page.specs.Edits as page
@@ -28,7 +28,7 @@ abbrev both : List page.Edit → List page.Edit → History
 both ds us = record { done = ds; undone = us }
 
 module _ (s : Engine) where
-  goods : All (Good (vec_items s.bytes)) (vec_items s.edits)
+  goods : AllByRecursion (Good (vec_items s.bytes)) (vec_items s.edits)
   goods = all_good (vec_items s.bytes) (vec_items s.edits) s.kinds s.reaches s.fit
 
   -- the done edits in their order, and the undone ones
@@ -53,12 +53,12 @@ module _ (s : Engine) where
         length-drop s.done (vec_items s.edits),
       )
 
-  each : (P : page.Edit → Type 0) → ((e : Edit) → Good (vec_items s.bytes) e → P (edit_of (vec_items s.bytes) e)) → All P ds × All P us
+  each : (P : page.Edit → Type 0) → ((e : Edit) → Good (vec_items s.bytes) e → P (edit_of (vec_items s.bytes) e)) → AllByRecursion P ds × AllByRecursion P us
   each P so =
       let all = All-weaker (Good (vec_items s.bytes)) (λ e. P (edit_of (vec_items s.bytes) e)) so (vec_items s.edits) goods in
       (All-map P (edit_of (vec_items s.bytes)) _ (All-take _ s.done (vec_items s.edits) all), All-map P (edit_of (vec_items s.bytes)) _ (All-drop _ s.done (vec_items s.edits) all))
 
-  pub all_held : All (Held (vec_items s.bytes)) (vec_items s.edits)
+  pub all_held : AllByRecursion (Held (vec_items s.bytes)) (vec_items s.edits)
   all_held = All-weaker (Good (vec_items s.bytes)) (Held (vec_items s.bytes)) (λ e g. reach_held (vec_items s.bytes) e g.0) (vec_items s.edits) goods
 
   -- what is put behind nothing is the file
@@ -75,7 +75,7 @@ module _ (s : Engine) where
       record {
         wide = (s.sized.0, s.sized.1);
         high = (s.sized.2, s.sized.3);
-        fit = (subst (All Fits) (sym in_turn) fits.0, fits.1);
+        fit = (subst (AllByRecursion Fits) (sym in_turn) fits.0, fits.1);
         few = (omega (arith, long, count, s.counted), omega (arith, count, s.counted));
         is = refl;
       }
@@ -83,7 +83,7 @@ module _ (s : Engine) where
   read_back : (lent : Lengths) → Enough lent s.wide s.high (vec_len s.edits) → MatchResult (read_file (engine_file s) lent) Read (λ f. ⊥)
   read_back lent en =
       let built = each Built (λ e g. g.1) in
-      file_written_read (engine_file s) lent s.wide s.high _ _ is_file (subst (All Built) (sym in_turn) built.0) built.1
+      file_written_read (engine_file s) lent s.wide s.high _ _ is_file (subst (AllByRecursion Built) (sym in_turn) built.0) built.1
       (subst (Enough lent s.wide s.high) (sym count ∙ ap (λ n. n + length us) (sym (ap length in_turn))) en)
 
   kept : (x : Result File Refusal) (r : Result Engine Fault) → MatchResult x Read (λ f. ⊥) → OpenedBy (engine_file s) x r → Kept s r

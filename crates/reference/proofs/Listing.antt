@@ -1,6 +1,6 @@
 -- Lists of edits: one put in behind the first d, bytes that grow, and the history that a list is. Assumes nothing.
 use Rattle.std.proofs.Common.{◌≡◌, ℕ, zero, suc, ◌+◌, ◌-◌, ◌<◌, ◌≤◌, true, List, [], ◌∷◌, ◌++◌, length, get_or, take, drop, sym, refl, ap, ◌∙◌, subst, ap₂, add-one, arith, length-append, drop-cons}
-use Rattle.std.specs.List.{AllByRecursion as All}
+use Rattle.std.specs.List.{AllByRecursion}
 use Rattle.std.proofs.ByRecursion.{All-from_get_or, All-get_or, All-weaker, All-take, All-drop, All-push}
 use Rattle.std.proofs.lemmas.List.{map_more, map-append, take_all, drop_all, length-take-le}
 use Rattle.page.specs.Edits as page
@@ -59,16 +59,16 @@ undone bs es d some l =
 abbrev pub Good : List ℕ → Edit → Type 0
 Good bs e = (reach e ≤ length bs) × Built bs e × Fits (edit_of bs e)
 
-pub all_good : (bs : List ℕ) (es : List Edit) → AllBuilt bs es → AllReach bs es → AllFits bs es → All (Good bs) es
+pub all_good : (bs : List ℕ) (es : List Edit) → AllBuilt bs es → AllReach bs es → AllFits bs es → AllByRecursion (Good bs) es
 all_good bs es b r f = All-from_get_or (Good bs) es AddLayer (λ k l. (r k AddLayer l, b k AddLayer l, known (edit_of bs (get_or es k AddLayer)) (f k AddLayer l)))
 
-pub good_built : (bs : List ℕ) (es : List Edit) → All (Good bs) es → AllBuilt bs es
+pub good_built : (bs : List ℕ) (es : List Edit) → AllByRecursion (Good bs) es → AllBuilt bs es
 good_built bs es g k d l = (All-get_or (Good bs) es k d l g).1
 
-pub good_reach : (bs : List ℕ) (es : List Edit) → All (Good bs) es → AllReach bs es
+pub good_reach : (bs : List ℕ) (es : List Edit) → AllByRecursion (Good bs) es → AllReach bs es
 good_reach bs es g k d l = (All-get_or (Good bs) es k d l g).0
 
-pub good_fits : (bs : List ℕ) (es : List Edit) → All (Good bs) es → AllFits bs es
+pub good_fits : (bs : List ℕ) (es : List Edit) → AllByRecursion (Good bs) es → AllFits bs es
 good_fits bs es g k d l = ∣ (All-get_or (Good bs) es k d l g).2 ∣₁
 
 good_grows : (bs more : List ℕ) (e : Edit) → Good bs e → Good (bs ++ more) e
@@ -76,22 +76,22 @@ good_grows bs more e g =
     let same = sym (edit_grows bs more e g.0) in
     (omega (arith, g.0, length-append bs more), subst (λ (m : page.Edit). built (kind m) ≡ true) same g.1, subst Fits same g.2)
 
-pub all_grow : (bs more : List ℕ) (es : List Edit) → All (Good bs) es → All (Good (bs ++ more)) es
+pub all_grow : (bs more : List ℕ) (es : List Edit) → AllByRecursion (Good bs) es → AllByRecursion (Good (bs ++ more)) es
 all_grow bs more es g = All-weaker (Good bs) (Good (bs ++ more)) (good_grows bs more) es g
 
-meanings_grow : (bs more : List ℕ) (es : List Edit) → All (Good bs) es → meanings (bs ++ more) es ≡ meanings bs es
+meanings_grow : (bs more : List ℕ) (es : List Edit) → AllByRecursion (Good bs) es → meanings (bs ++ more) es ≡ meanings bs es
 meanings_grow bs more [] g = refl
 meanings_grow bs more (e ∷ es) g = ap₂ (λ m ms. m ∷ ms) (edit_grows bs more e g.0.0) (meanings_grow bs more es g.1)
 
-pub history_grows : (bs more : List ℕ) (es : List Edit) (d : ℕ) → All (Good bs) es → history_of (bs ++ more) es d ≡ history_of bs es d
+pub history_grows : (bs more : List ℕ) (es : List Edit) (d : ℕ) → AllByRecursion (Good bs) es → history_of (bs ++ more) es d ≡ history_of bs es d
 history_grows bs more es d g =
     ap₂ (λ ds us. both (in_order ds []) us) (meanings_grow bs more (take d es) (All-take (Good bs) d es g)) (meanings_grow bs more (drop d es) (All-drop (Good bs) d es g))
 
 -- one edit behind the first d, and none undone
-pub all_put : (bs more : List ℕ) (es : List Edit) (d : ℕ) (e : Edit) → All (Good bs) es → Good (bs ++ more) e → All (Good (bs ++ more)) (take d es ++ e ∷ [])
+pub all_put : (bs more : List ℕ) (es : List Edit) (d : ℕ) (e : Edit) → AllByRecursion (Good bs) es → Good (bs ++ more) e → AllByRecursion (Good (bs ++ more)) (take d es ++ e ∷ [])
 all_put bs more es d e g n = All-push (Good (bs ++ more)) (take d es) e (all_grow bs more (take d es) (All-take (Good bs) d es g)) n
 
-pub history_put : (bs more : List ℕ) (es : List Edit) (d : ℕ) (e : Edit) (m : page.Edit) → d ≤ length es → All (Good bs) es → edit_of (bs ++ more) e ≡ m →
+pub history_put : (bs more : List ℕ) (es : List Edit) (d : ℕ) (e : Edit) (m : page.Edit) → d ≤ length es → AllByRecursion (Good bs) es → edit_of (bs ++ more) e ≡ m →
     history_of (bs ++ more) (take d es ++ e ∷ []) (d + 1) ≡ turned (history_of bs es d) (does m)
 history_put bs more es d e m l g is =
     let new = take d es ++ e ∷ [] in

@@ -1,6 +1,6 @@
 -- A file that is read: its edits in a list, and the history that they are. Assumes nothing.
 use Rattle.std.proofs.Common.{◌≡◌, ℕ, ◌+◌, List, [], ◌∷◌, ◌++◌, length, take, drop, sym, refl, ap, ◌∙◌, subst}
-use Rattle.std.specs.List.{AllByRecursion as All}
+use Rattle.std.specs.List.{AllByRecursion}
 use Rattle.std.proofs.ByRecursion.{All-append, All-push}
 use Rattle.std.proofs.lemmas.List.{take-map, drop-map, take_at, drop_at, length-map, map-append}
 use Rattle.codec.specs.declared.edits.Edit.{Edit}
@@ -38,7 +38,7 @@ read_more bs n at es x so is good =
       onward = ap (λ (y : Edit × ℕ). y.1) here ∙ sym more.1;
     }
 
-all_known : (bs : List ℕ) (es : List Edit) → All Built (meanings bs es) → All (EditGood bs) es → All (Good bs) es
+all_known : (bs : List ℕ) (es : List Edit) → AllByRecursion Built (meanings bs es) → AllByRecursion (EditGood bs) es → AllByRecursion (Good bs) es
 all_known bs [] b g = tt
 all_known bs (e ∷ es) b g = ((held_reach bs e g.0.held, b.0, g.0.fits), all_known bs es b.1 g.1)
 
@@ -55,5 +55,5 @@ module _ (bs : List ℕ) (lent : Lengths) (f : File) (taken : FileTaken bs lent 
   pub undone_means : meanings bs (drop f.done es) ≡ undone_of bs f
   undone_means = sym (drop-map (edit_of bs) f.done es) ∙ (ap (drop f.done) both ∙ drop_at (done_of bs f) (undone_of bs f) f.done taken.counts.0)
 
-  pub all_opened : All (Good bs) es
-  all_opened = all_known bs es (subst (All Built) (sym both) (All-append Built (done_of bs f) (undone_of bs f) taken.is_built.0 taken.is_built.1)) so.good
+  pub all_opened : AllByRecursion (Good bs) es
+  all_opened = all_known bs es (subst (AllByRecursion Built) (sym both) (All-append Built (done_of bs f) (undone_of bs f) taken.is_built.0 taken.is_built.1)) so.good

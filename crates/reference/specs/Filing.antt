@@ -1,6 +1,6 @@
 -- The file of the plain engine: which engine a file opens as, and which file an engine writes. Assumes nothing.
 use Rattle.std.specs.Prelude.{◌≡◌, ℕ, ◌+◌, List, [], Ok, Err, vec_len, Result}
-use Rattle.std.specs.List.{AllByRecursion as All}
+use Rattle.std.specs.List.{AllByRecursion}
 use Rattle.page.specs.History.{in_order}
 use Rattle.codec.specs.declared.edits.Edit.{Edit}
 use Rattle.codec.specs.declared.edits.Refusal.{Refusal}
@@ -17,7 +17,7 @@ use Rattle.reference.specs.Turning.{history}
 -- the first n edits of a file, which stand from its byte 16 on
 pub record Listed (bs : List ℕ) (n : ℕ) (es : List Edit) : Type 0 where
   pub means : meanings bs es ≡ edits_from bs 16 n
-  pub good : All (EditGood bs) es
+  pub good : AllByRecursion (EditGood bs) es
 
 -- the engine has the file's size and its edits, the done and the undone ones, each of which counts as a turn
 pub record Opened (bs : List ℕ) (f : File) (s : Engine) : Type 0 where

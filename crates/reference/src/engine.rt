@@ -1,7 +1,7 @@
 // Turns: an edit, undo or redo, over a plain list of edits; and the page made anew.
 ghost use Rattle.std.specs.Prelude.{◌≡◌, ℕ, ◌+◌, ◌<◌, ◌≤◌, List, [], ◌∷◌, ◌++◌, length, take, is_ok, if◌then◌else◌, None, vec_len};
 ghost use Rattle.page.specs.Edits.{Edit as Model};
-ghost use Rattle.page.specs.History.{undo as model-undo, redo as model-redo};
+ghost use Rattle.page.specs.History.{undo as model_undo, redo as model_redo};
 ghost use Rattle.codec.specs.Laws.{EditBytes};
 ghost use Rattle.reference.specs.Turning.{history, against, size_refusal, Begins, Moved, Adds, Stepped, Turns, Remade};
 ghost use Rattle.codec.specs.Meaning.{turn_of};
@@ -86,7 +86,7 @@ impl Engine {
     // Takes back the last edit that is done, if there is one.
     fn undo(&mut self)
         requires { self.old.taken < 65536 }
-        ensures { Moved self.old model-undo self.new }
+        ensures { Moved self.old model_undo self.new }
     {
         self.taken += 1;
         if self.done > 0 {
@@ -97,7 +97,7 @@ impl Engine {
     // Does again the last edit that was undone, if there is one.
     fn redo(&mut self)
         requires { self.old.taken < 65536 }
-        ensures { Moved self.old model-redo self.new }
+        ensures { Moved self.old model_redo self.new }
     {
         self.taken += 1;
         if self.done < self.edits.len() {

@@ -1,6 +1,6 @@
 // The plain engine as programs use it: it takes the turns of a script, and what it made is printed.
 ghost use Rattle.std.specs.Prelude.{◌≡◌, ◌≤◌, ◌++◌, IfOk, OnOk};
-ghost use Rattle.std.specs.List.{flat_map, AllByRecursion as All};
+ghost use Rattle.std.specs.List.{flat_map, AllByRecursion};
 ghost use Rattle.codec.specs.Meaning.{Held};
 ghost use Rattle.reference.specs.Lists.{meanings};
 ghost use Rattle.reference.specs.Making.{seen_at};
@@ -73,7 +73,7 @@ fn write_lines(
     source: &[u8],
     out: &mut Vec<u8>,
 ) -> Result<(), AllocError>
-    requires { All (Held source.now) edits.now }
+    requires { AllByRecursion (Held source.now) edits.now }
     ensures { OnOk result (out.new.items ≡ out.old.items ++ flat_map edit_line (meanings source.now edits.now)) }
 {
     for edit in edits {

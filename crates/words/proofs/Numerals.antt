@@ -2,7 +2,7 @@
 use Rattle.std.proofs.Common.{◌≡◌, ℕ, ◌+◌, ◌-◌, ◌*◌, ◌/◌, ◌%◌, ◌^◌, ◌<◌, ◌≤◌, Bool, true, false, cond, ◌&&◌, eqb, ltb, leb, List, [], ◌∷◌, ◌++◌, length, get_or, drop, set, Some, None, decimal, Option, sym, refl, ap, ◌∙◌, subst, inl, inr, append_assoc, arith, length-append, length-drop}
 use Rattle.std.specs.Char.{digit_value, digit_char}
 use Rattle.std.specs.Fmt.{option_append}
-use Rattle.std.specs.List.{AllByRecursion as All}
+use Rattle.std.specs.List.{AllByRecursion}
 use Rattle.std.proofs.lemmas.Bool.Decides.{nat_tests}
 use Rattle.std.proofs.lemmas.Bool.{cond-true, cond-false, cases_lt, and_from, and_left, and_right, lt-ltb, le-ltb, le-leb, lt-leb}
 use Rattle.std.proofs.lemmas.List.{at_drop_more, at_drop_all, drop_more, drop-set}
@@ -20,15 +20,15 @@ char_inside d h = grind (arith, nat_tests)
 pub pair_back : (x y : ℕ) → x < 16 → y < 16 → hex_pair (digit_char x) (digit_char y) ≡ Some (16 * x + y)
 pair_back x y h k = rw (value_back x h, value_back y k) (grind (arith, nat_tests))
 
-pub hex_back : (bs : List ℕ) → All (λ b. b < 256) bs → hex_bytes (hex bs) ≡ Some bs
+pub hex_back : (bs : List ℕ) → AllByRecursion (λ b. b < 256) bs → hex_bytes (hex bs) ≡ Some bs
 hex_back [] h = refl
 hex_back (b ∷ bs) h = rw (pair_back (b / 16) (b % 16) (omega arith) (omega arith), hex_back bs h.1) (ap (λ a. Some (a ∷ bs)) (omega arith))
 
-hex_inside : (bs : List ℕ) → All (λ b. b < 256) bs → All Inside (hex bs)
+hex_inside : (bs : List ℕ) → AllByRecursion (λ b. b < 256) bs → AllByRecursion Inside (hex bs)
 hex_inside [] h = tt
 hex_inside (b ∷ bs) h = (char_inside (b / 16) (omega arith), (char_inside (b % 16) (omega arith), hex_inside bs h.1))
 
-pub hex_word : (bs : List ℕ) → 0 < length bs → All (λ b. b < 256) bs → Word (hex bs)
+pub hex_word : (bs : List ℕ) → 0 < length bs → AllByRecursion (λ b. b < 256) bs → Word (hex bs)
 hex_word [] h each = absurd (omega arith)
 hex_word (b ∷ bs) h each = record { some = omega arith; inside = hex_inside (b ∷ bs) each }
 
@@ -61,7 +61,7 @@ decimal_word n h =
     record {
       some = decimal_nonempty n h;
       inside =
-          decimal_by_steps (λ m ds. All Inside ds) (λ m l. (grind (arith, nat_tests), tt))
+          decimal_by_steps (λ m ds. AllByRecursion Inside ds) (λ m l. (grind (arith, nat_tests), tt))
           (λ m ds l so. All-push Inside ds (48 + m % 10) so (grind (arith, nat_tests))) n h;
     }
 

@@ -1,6 +1,6 @@
 -- The words of a row's fields are read back, whatever the fields are; a row is found again by its name.
 use Rattle.std.proofs.Common.{◌≡◌, ℕ, ◌+◌, ◌*◌, ◌/◌, ◌%◌, ◌<◌, ◌≤◌, Bool, true, false, not, ◌&&◌, eqb, List, [], ◌∷◌, ◌++◌, map, length, get_or, take, drop, Some, None, codes, sym, refl, ap, ◌∙◌, subst, inl, inr, append_assoc, arith, length-drop, take-append-drop, length-take}
-use Rattle.std.specs.List.{AllByRecursion as All}
+use Rattle.std.specs.List.{AllByRecursion}
 use Rattle.std.proofs.ByRecursion.{All-take, All-drop}
 use Rattle.std.proofs.lemmas.Slice.Eq.{bytes_eq-Decides}
 use Rattle.std.proofs.lemmas.List.{at_drop_more, at_drop_all}
@@ -22,7 +22,7 @@ two_back : (m a n b : ℕ) → m ≡ a → n ≡ b → Some (m ∷ n ∷ []) ≡
 two_back m a n b e f = cc
 
 -- one field
-pub field_back : (f : Field) (bs : List ℕ) → size f ≤ length bs → All (λ b. b < 256) bs → Back f bs
+pub field_back : (f : Field) (bs : List ℕ) → size f ≤ length bs → AllByRecursion (λ b. b < 256) bs → Back f bs
 field_back Byte [] h each = absurd (omega arith)
 field_back Byte (a ∷ bs) h each = record { back = rw (number_back 255 a (omega arith) (omega arith)); word = decimal_word a (omega arith) }
 field_back Short [] h each = absurd (omega arith)
@@ -39,26 +39,26 @@ field_back Colour (a ∷ []) h each = absurd (omega arith)
 field_back Colour (a ∷ b ∷ []) h each = absurd (omega arith)
 field_back Colour (a ∷ b ∷ c ∷ []) h each = absurd (omega arith)
 field_back Colour (a ∷ b ∷ c ∷ d ∷ bs) h each =
-    let four : All (λ b. b < 256) (a ∷ b ∷ c ∷ d ∷ []) = All-take (λ b. b < 256) 4 (a ∷ b ∷ c ∷ d ∷ bs) each in
+    let four : AllByRecursion (λ b. b < 256) (a ∷ b ∷ c ∷ d ∷ []) = All-take (λ b. b < 256) 4 (a ∷ b ∷ c ∷ d ∷ bs) each in
     record { back = hex_back (a ∷ b ∷ c ∷ d ∷ []) four; word = hex_word (a ∷ b ∷ c ∷ d ∷ []) (omega arith) four }
 
 -- all fields
-pub fields_back : (fs : List Field) (bs : List ℕ) → length bs ≡ sizes fs → All (λ b. b < 256) bs → fields_bytes fs (field_words fs bs) ≡ Some bs
+pub fields_back : (fs : List Field) (bs : List ℕ) → length bs ≡ sizes fs → AllByRecursion (λ b. b < 256) bs → fields_bytes fs (field_words fs bs) ≡ Some bs
 fields_back [] [] h each = refl
 fields_back [] (b ∷ bs) h each = absurd (omega arith)
 fields_back (f ∷ fs) bs h each =
     let rest : length (drop (size f) bs) ≡ sizes fs = simp length-drop (omega arith) in
-    let small : All (λ b. b < 256) (drop (size f) bs) = All-drop (λ b. b < 256) (size f) bs each in
+    let small : AllByRecursion (λ b. b < 256) (drop (size f) bs) = All-drop (λ b. b < 256) (size f) bs each in
     rw ((field_back f bs (omega arith) each).back, fields_back fs (drop (size f) bs) rest small) (ap (λ (xs : List ℕ). Some xs) (take-append-drop (size f) bs))
 
-pub fields_words : (fs : List Field) (bs : List ℕ) → length bs ≡ sizes fs → All (λ b. b < 256) bs → All Word (field_words fs bs)
+pub fields_words : (fs : List Field) (bs : List ℕ) → length bs ≡ sizes fs → AllByRecursion (λ b. b < 256) bs → AllByRecursion Word (field_words fs bs)
 fields_words [] bs h each = tt
 fields_words (f ∷ fs) bs h each =
     let rest : length (drop (size f) bs) ≡ sizes fs = simp length-drop (omega arith) in
     ((field_back f bs (omega arith) each).word, fields_words fs (drop (size f) bs) rest (All-drop (λ b. b < 256) (size f) bs each))
 
 -- a row that is found passes the test, and what holds of all rows
-pub found : (test : Row → Bool) (P : Row → Type 0) (rs : List Row) (r : Row) → find test rs ≡ Some r → All P rs → (test r ≡ true) × P r
+pub found : (test : Row → Bool) (P : Row → Type 0) (rs : List Row) (r : Row) → find test rs ≡ Some r → AllByRecursion P rs → (test r ≡ true) × P r
 found test P [] r e each = let z : ◌≡◌ {A = ℕ} 0 1 = cc in absurd (omega arith)
 found test P (q ∷ rs) r e each =
     elim (cases_Bool (test q)) [
@@ -94,7 +94,7 @@ plain : List ℕ → Bool
 plain [] = false
 plain (b ∷ bs) = not (eqb b 35) && no_space (b ∷ bs)
 
-inside_from : (w : List ℕ) → no_space w ≡ true → All Inside w
+inside_from : (w : List ℕ) → no_space w ≡ true → AllByRecursion Inside w
 unfolding no_space
 inside_from [] h = tt
 inside_from (b ∷ bs) h = let p = and_parts _ _ h in (not-true (is_space b) p.0, inside_from bs p.1)
@@ -110,7 +110,7 @@ plain_word (b ∷ bs) h =
 nameable : (r : Row) → find (named r.name) table ≡ Some r → plain r.name ≡ true → Nameable r
 nameable r e h = let p = plain_word r.name h in record { again = e; word = p.0; no_comment = p.1 }
 
-pub all_nameable : All Nameable table
+pub all_nameable : AllByRecursion Nameable table
 unfolding table no_space plain
 all_nameable = (
   nameable _ refl refl,

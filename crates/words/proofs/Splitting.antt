@@ -1,6 +1,6 @@
 -- A line of words with spaces between is split into these words.
 use Rattle.std.proofs.Common.{◌≡◌, ℕ, zero, suc, ◌+◌, ◌<◌, ◌≤◌, true, false, List, [], ◌∷◌, ◌++◌, length, get_or, drop, refl, ap, ◌∙◌, append_assoc, append-nil, arith}
-use Rattle.std.specs.List.{AllByRecursion as All}
+use Rattle.std.specs.List.{AllByRecursion}
 use Rattle.std.proofs.lemmas.Bool.{both_ways, cond-true, cond-false}
 use Rattle.std.proofs.lemmas.List.{at_drop_more, drop_all}
 use Rattle.words.specs.Split.{is_space, ended, split, words_of, spaced}
@@ -11,21 +11,21 @@ Inside b = is_space b ≡ false
 -- what a word is: not empty, and no space in it
 pub record Word (w : List ℕ) : Type 0 where
   pub some : 0 < length w
-  pub inside : All Inside w
+  pub inside : AllByRecursion Inside w
 
 -- bytes with no space lengthen the word
-pub split_word : (p w rest : List ℕ) → All Inside w → split p (w ++ rest) ≡ split (p ++ w) rest
+pub split_word : (p w rest : List ℕ) → AllByRecursion Inside w → split p (w ++ rest) ≡ split (p ++ w) rest
 split_word p [] rest h = rw append-nil
 split_word p (b ∷ bs) rest h =
     cond-false (is_space b) _ _ h.0 ∙ (split_word (p ++ b ∷ []) bs rest h.1 ∙ ap (λ q. split q rest) (append_assoc p (b ∷ []) bs))
 
-pub split_spaced : (p : List ℕ) (ws : List (List ℕ)) → 0 < length p → All Word ws → split p (spaced ws) ≡ p ∷ ws
+pub split_spaced : (p : List ℕ) (ws : List (List ℕ)) → 0 < length p → AllByRecursion Word ws → split p (spaced ws) ≡ p ∷ ws
 split_spaced [] ws h each = absurd (omega arith)
 split_spaced (b ∷ bs) [] h each = refl
 split_spaced (b ∷ bs) (w ∷ ws) h each =
     ap (λ vs. (b ∷ bs) ∷ vs) (split_word [] w (spaced ws) each.0.inside ∙ split_spaced w ws each.0.some each.1)
 
-pub words_back : (w : List ℕ) (ws : List (List ℕ)) → Word w → All Word ws → words_of (w ++ spaced ws) ≡ w ∷ ws
+pub words_back : (w : List ℕ) (ws : List (List ℕ)) → Word w → AllByRecursion Word ws → words_of (w ++ spaced ws) ≡ w ∷ ws
 words_back w ws h each = split_word [] w (spaced ws) h.inside ∙ split_spaced w ws h.some each
 
 -- a cursor comes to a byte of the word, a space, the end

@@ -1,7 +1,7 @@
 -- What a line says, the words of a turn, and the law that joins them. Assumes nothing.
 use Rattle.std.specs.Prelude.{◌≡◌, ℕ, ◌<◌, Bool, cond, ◌&&◌, List, [], ◌∷◌, ◌++◌, length, take, drop, Some, None, codes, Option, ◌==◌, slice_index}
 use Rattle.std.specs.Fmt.{option_append}
-use Rattle.std.specs.List.{AllByRecursion as All}
+use Rattle.std.specs.List.{AllByRecursion}
 use Rattle.std.specs.Str.{bytes_eq}
 use Rattle.words.specs.declared.lines.Line.{Line}
 use Rattle.words.specs.declared.lines.Line.TheVariants.{Blank, Turn, Unknown}
@@ -60,4 +60,4 @@ worded bs = row_worded (find (fits_row bs) table) bs
 
 -- reading what was written gives the same turn
 abbrev pub ReadsBack : Type 0
-ReadsBack = (bs : List ℕ) → 0 < length bs → All (λ b. b < 256) bs → understood (worded bs) ≡ (Turn, bs)
+ReadsBack = (bs : List ℕ) → 0 < length bs → AllByRecursion (λ b. b < 256) bs → understood (worded bs) ≡ (Turn, bs)

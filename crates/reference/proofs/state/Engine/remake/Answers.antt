@@ -1,6 +1,6 @@
 use Rattle.std.proofs.Common.{◌≡◌, ◌-◌, List, [], take, vec_items, sym, ap, ◌∙◌, subst, ap₂, subst₂, arith}
 use native.Mathlib.Nat.{sub-zero}
-use Rattle.std.specs.List.{AllByRecursion as All}
+use Rattle.std.specs.List.{AllByRecursion}
 use Rattle.std.proofs.ByRecursion.{All-take, All-weaker}
 use Rattle.page.specs.Edits as page
 use Rattle.page.specs.History.{in_order}
@@ -16,10 +16,10 @@ replay-requires c =
     let s = c.args.self.now in
     let bs = vec_items s.bytes in
     let es = vec_items s.edits in
-    let built : All (Built bs) (take (s.done - 0) es)
+    let built : AllByRecursion (Built bs) (take (s.done - 0) es)
     = All-take (Built bs) (s.done - 0) es (All-weaker (Good bs) (Built bs) (λ e g. g.1) es (all_good bs es s.kinds s.reaches s.fit)) in (
       record { some_wide = s.sized.0; most_wide = s.sized.1; some_high = s.sized.2; most_high = s.sized.3; enough = omega (arith, c.area.ensures.is) },
-      subst₂ (λ b e. All (Built b) (take (s.done - 0) e)) (sym c.as_slice.ensures.value) (sym c.as_slice-edits.ensures.value) built,
+      subst₂ (λ b e. AllByRecursion (Built b) (take (s.done - 0) e)) (sym c.as_slice.ensures.value) (sym c.as_slice-edits.ensures.value) built,
     )
 
 pub returns : goal.returns
