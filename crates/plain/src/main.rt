@@ -8,6 +8,7 @@ use codec::edits::{Lent, Refusal};
 use reference::shown::lent_for;
 use reference::state::{Engine, Fault};
 use std::io::{Read, Write};
+use std::process::ExitCode;
 use std::{env, fs, io};
 use words::call::{Call, SIZE, Source, read_call};
 use words::saving::save;
@@ -70,21 +71,21 @@ fn run(rt: &HostRuntime, call: Call) -> io::Result<bool>
     Ok(all)
 }
 
-fn main(rt: HostRuntime) -> io::Result<()> {
+fn main(rt: HostRuntime) -> io::Result<ExitCode> {
     let mut args = Vec::new(rt.alloc());
     for arg in env::args(&rt)?.skip(1) {
         args.push(arg)?;
     }
     let Some(call) = read_call(args.as_slice()) else {
         eprintln!(rt; "{USAGE}")?;
-        return Err(io::Error::from(io::ErrorKind::InvalidInput));
+        return Ok(ExitCode::FAILURE);
     };
     match run(&rt, call) {
-        Ok(true) => Ok(()),
-        Ok(false) => Err(io::Error::from(io::ErrorKind::InvalidData)),
+        Ok(true) => Ok(ExitCode::SUCCESS),
+        Ok(false) => Ok(ExitCode::FAILURE),
         Err(fault) => {
             eprintln!(rt; "plain: {fault}")?;
-            Err(fault)
+            Ok(ExitCode::FAILURE)
         }
     }
 }

@@ -6,6 +6,7 @@ ghost use Rattle.std.specs.Prelude.{◌≤◌, IfSome};
 use reference::shown::lent_for;
 use reference::state::{Engine, Fault};
 use std::io::Write;
+use std::process::ExitCode;
 use std::{env, fs, io};
 use words::call::{SIZE, read_size};
 use words::saving::save;
@@ -99,21 +100,21 @@ fn run(rt: &HostRuntime, path: &str, wanted: Wanted, size: usize) -> io::Result<
     }
 }
 
-fn main(rt: HostRuntime) -> io::Result<()> {
+fn main(rt: HostRuntime) -> io::Result<ExitCode> {
     let mut args = Vec::new(rt.alloc());
     for arg in env::args(&rt)?.skip(1) {
         args.push(arg)?;
     }
     let Some((path, wanted, size)) = read_args(args.as_slice()) else {
         eprintln!(rt; "{USAGE}")?;
-        return Err(io::Error::from(io::ErrorKind::InvalidInput));
+        return Ok(ExitCode::FAILURE);
     };
     match run(&rt, path, wanted, size) {
-        Ok(true) => Ok(()),
-        Ok(false) => Err(io::Error::from(io::ErrorKind::InvalidData)),
+        Ok(true) => Ok(ExitCode::SUCCESS),
+        Ok(false) => Ok(ExitCode::FAILURE),
         Err(fault) => {
             eprintln!(rt; "view: {fault}")?;
-            Err(fault)
+            Ok(ExitCode::FAILURE)
         }
     }
 }
