@@ -6,6 +6,8 @@ usage: python3 tools/respell.py [ROOT]
 It goes over specs/, proofs/ and the clauses of src/. A name is respelled where the repository itself defines it with a dash: a definition, a lemma, a field or
 a constructor of an .antt file, or a name that a `let` or a λ binds there. What the library defines, and what the checker makes of the code (the goals and steps
 in the folder of a function), stays. A dash stays where it joins the name of a function to the rest, as in length-put.
+
+It was run once, in the commit that the second line of docs/PORT.md names: names of lemmas that came later have dashes that it would take away.
 """
 
 import collections

@@ -30,7 +30,7 @@ pub fn whatever_was_lent()
     ensures { WhateverWasLent }
 {}
 
-// Whatever functions meet the five contracts show what the turns mean (Same-seen), also through files (Kept-in-files).
+// Whatever functions meet the five contracts show what the turns mean (SameSeen), also through files (KeptInFiles).
 pub fn main_promise()
     ensures { MainPromise }
 {}

@@ -1,4 +1,4 @@
--- Outside what is selected an edit of pixels changes nothing: each paints by `pixel-lerp`, and that by 0 is the old pixel. Assumes nothing.
+-- Outside what is selected an edit of pixels changes nothing: each paints by `pixel_lerp`, and that by 0 is the old pixel. Assumes nothing.
 use Rattle.std.proofs.Common.{◌≡◌, ℕ, zero, suc, List, [], ◌∷◌, get_or, set, refl, ap, ◌∙◌, arith}
 use Rattle.pixel.specs.declared.Pixel.{Pixel}
 use Rattle.page.specs.Layers.{Picture, Layer, clear_layer, painted}
