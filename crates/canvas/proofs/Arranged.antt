@@ -1,9 +1,10 @@
 -- From entries that changed places to the page that they mean: each edit of the layers. Assumes nothing.
-use Rattle.std.proofs.Common.{◌≡◌, ℕ, suc, ◌+◌, ◌-◌, ◌*◌, ◌<◌, ◌≤◌, Bool, true, false, cond, ◌≢◌, List, length, get_or, take, set, sym, refl, ap, ◌∙◌, subst, ap₂, subst₂, inl, inr, add-one, arith, length-set, get_or-set_other, get_or-set_same}
+use Rattle.std.proofs.Common.{◌≡◌, ℕ, suc, ◌+◌, ◌-◌, ◌*◌, ◌<◌, ◌≤◌, Bool, true, false, if◌then◌else◌, ◌≢◌, List, length, get_or, take, set, sym, refl, ap, ◌∙◌, subst, ap₂, subst₂, inl, inr, add-one, arith, length-set, get_or-set_other, get_or-set_same}
 use mathlib.Core.Path.{subst₃}
 use Rattle.std.proofs.lemmas.Nat.{mul-add-lt}
 use Rattle.std.proofs.lemmas.List.{length-map, length-take-le, get_or-map, get_or-take}
 use Rattle.std.proofs.lemmas.Bool.{cases_eq, cond-true, cond-false, lt-ltb, le-ltb}
+use Rattle.pixel.specs.declared.sizes.Size.{Size}
 use Rattle.pixel.specs.Bytes.{pixel_at, PixelsTo, Wrote}
 use Rattle.pixel.specs.Pixels.{clear, merged}
 use Rattle.pixel.proofs.Steps.{pixel_kept, pixels_wrote}
@@ -37,16 +38,16 @@ viewed w h ls n a xs =
     }
 
 -- an edit that can be, and one that cannot
-pub done : (t : Bool) (p q r : Page) → t ≡ true → Agree r q → Agree r (cond t q p)
+pub done : (t : Bool) (p q r : Page) → t ≡ true → Agree r q → Agree r (if t then q else p)
 done t p q r e a = subst (Agree r) (sym (cond-true t q p e)) a
 
-left : (t : Bool) (p q : Page) → t ≡ false → Agree p (cond t q p)
+left : (t : Bool) (p q : Page) → t ≡ false → Agree p (if t then q else p)
 left t p q e = subst (Agree p) (sym (cond-false t q p e)) (agree_refl p)
 
 -- an edit that cannot be leaves everything
 module _ (s : Canvas) (xs : List ℕ) where
   stays : (e : Edit) → Agree (view s xs) (edited (view s xs) e) → LayersEdited s e xs s xs
-  stays e so = record { agrees = so; same_wide = refl; same_high = refl }
+  stays e so = record { agrees = so; same_size = refl }
 
   pub not_added : 64 ≤ s.count → LayersPainted s add_layer s.count xs s xs
   not_added full =
@@ -54,9 +55,6 @@ module _ (s : Canvas) (xs : List ℕ) where
         edit = stays add_layer (left _ (view s xs) _ (le-ltb (length (view s xs).layers) 64 (omega (arith, view_count s xs))));
         wrote = record { long = refl; before = λ q l. refl; after = λ q l. refl };
       }
-
-  pub not_dropped : s.count ≤ 1 → LayersEdited s drop_layer xs s xs
-  not_dropped last = stays drop_layer (left _ (view s xs) _ (le-ltb 1 (length (view s xs).layers) (omega (arith, view_count s xs))))
 
   pub not_chosen : (k : ℕ) → s.count ≤ k → LayersEdited s (choose_layer k) xs s xs
   not_chosen k none = stays (choose_layer k) (left _ (view s xs) _ (le-ltb k (length (view s xs).layers) (omega (arith, view_count s xs))))
@@ -100,10 +98,10 @@ same_layer w h l m e = agree_by w h l m m m e refl (record { same_mode = refl; s
 
 module _ (s t : Canvas) where
   abbrev w : ℕ
-  w = s.wide
+  w = s.size.wide
 
   abbrev h : ℕ
-  h = s.high
+  h = s.size.high
 
   abbrev entry : ℕ → Entry
   entry k = get_or s.layers k no_entry
@@ -120,7 +118,7 @@ module _ (s t : Canvas) where
       let at : (k : ℕ) → k < t.count → get_or (layers_of w h ys (take t.count ms)) k clear_layer ≡ layer_of w h ys (get_or ls (f k) no_entry)
       = λ k l. get_or-map (layer_of w h ys) (take t.count ms) k no_entry clear_layer (omega (arith, length-take-le t.count ms few))
       ∙ ap (layer_of w h ys) (get_or-take t.count ms k no_entry l ∙ so.entries.places k no_entry (omega (arith, so.entries.long))) in
-      subst₂ (λ x y. Agree (viewed x y t.layers t.count t.active ys) q) (sym so.wide_is) (sym so.high_is)
+      subst (λ (z : Size). Agree (viewed z.wide z.high t.layers t.count t.active ys) q) (sym so.size_is)
       (record {
         same_wide = refl;
         same_high = refl;
@@ -131,8 +129,8 @@ module _ (s t : Canvas) where
         same_clipboard = λ i j iw jh. pixel_kept _ _ xs ys _ wrote (inr (omega arith));
       })
 
-  pub edit_by : (e : Edit) (xs ys : List ℕ) → t.wide ≡ w → t.high ≡ h → Agree (view t ys) (edited (view s xs) e) → LayersEdited s e xs t ys
-  edit_by e xs ys a b so = record { agrees = so; same_wide = a; same_high = b }
+  pub edit_by : (e : Edit) (xs ys : List ℕ) → t.size ≡ s.size → Agree (view t ys) (edited (view s xs) e) → LayersEdited s e xs t ys
+  edit_by e xs ys same so = record { agrees = so; same_size = same }
 
   -- one taken out
   pub dropped : Arranged s s.layers (from_raised s.active (s.count - 1)) (s.count - 1) (s.active - 1) t → 1 < s.count → (xs : List ℕ) → LayersEdited s drop_layer xs t xs
@@ -141,7 +139,7 @@ module _ (s t : Canvas) where
       let qs = without s.active p.layers in
       let count = view_count s xs in
       let there = s.counted.0 in
-      edit_by drop_layer xs xs so.wide_is so.high_is
+      edit_by drop_layer xs xs so.size_is
       (done _ p (with_layers p qs (s.active - 1)) (view t xs) (lt-ltb 1 (length p.layers) (omega arith))
       (page_is s.layers (from_raised s.active (s.count - 1)) (s.count - 1) (s.active - 1) so s.full xs xs 0 0 (wrote_none xs) (omega arith) qs (s.active - 1) refl
       (omega (arith, length_without s.active p.layers (omega arith)))
@@ -157,7 +155,7 @@ module _ (s t : Canvas) where
       let some : a + 1 < s.count = omega arith in
       let qs = put_in (suc a) (active_layer p) (without a p.layers) in
       let count = view_count s xs in
-      edit_by raise_layer xs xs so.wide_is so.high_is
+      edit_by raise_layer xs xs so.size_is
       (done _ p (with_layers p qs (suc a)) (view t xs) (lt-ltb (suc a) (length p.layers) (omega arith))
       (page_is s.layers (from_raised a (a + 1)) s.count (a + 1) so s.full xs xs 0 0 (wrote_none xs) (omega arith) qs (suc a) (add-one a)
       (length-put_in (suc a) (active_layer p) (without a p.layers) ∙ length_without a p.layers (omega arith) ∙ count)
@@ -193,7 +191,7 @@ module _ (s t : Canvas) where
             (kept_layer w h (entry n).plane xs ys wrote (entry (f k)) (λ e. let same : f k ≡ n = s.distinct (f k, n, no_entry) (omega arith, few, e) in omega arith))
       ] in
       record {
-        edit = edit_by add_layer xs ys so.wide_is so.high_is
+        edit = edit_by add_layer xs ys so.size_is
             (done _ p (with_layers p qs (suc a)) (view t ys) (lt-ltb (length p.layers) 64 (omega arith))
             (page_is ls f (n + 1) (a + 1) so (length-set s.layers n new ∙ full) xs ys _ _ wrote (plane_in (w * h) (entry n).plane (s.planes n no_entry few)) qs (suc a) (add-one a)
             (length-put_in (suc a) clear_layer p.layers ∙ ap suc count ∙ sym (add-one n)) each));
@@ -235,7 +233,7 @@ module _ (s t : Canvas) where
             (kept_layer w h (entry b).plane xs ys wrote (entry (f k)) (λ e. ne (raised_same a hi k b (omega arith) l (s.distinct (f k, b, no_entry) (omega arith, omega arith, e)))))
       ] in
       record {
-        edit = edit_by merge_down xs ys so.wide_is so.high_is
+        edit = edit_by merge_down xs ys so.size_is
             (done _ p (with_layers p qs b) (view t ys) (lt-ltb 0 a (omega arith))
             (page_is s.layers f hi b so s.full xs ys _ _ wrote (plane_in (w * h) (entry b).plane (s.planes b no_entry (omega arith))) qs b refl (length-set rest b (merged_layer p) ∙ size) each));
         wrote = wrote;

@@ -1,14 +1,11 @@
 -- Rows of bytes, one after the other. Assumes nothing.
-use Rattle.std.proofs.Common.{◌≡◌, ℕ, ◌+◌, ◌*◌, ◌<◌, ◌≤◌, List, get_or, refl, ap, ◌∙◌, le_refl, arith, below_more}
+use Rattle.std.proofs.Common.{◌≡◌, ℕ, ◌+◌, ◌*◌, ◌<◌, ◌≤◌, List, get_or, ap, ◌∙◌, le_refl, arith, below_more}
 use Rattle.std.proofs.lemmas.Nat.{mul-le}
-use Rattle.pixel.specs.Bytes.{BytesTo, Wrote}
+use Rattle.pixel.specs.Bytes.{BytesTo}
 use Rattle.canvas.specs.Rows.{RowsTo}
 
-pub row_fits : (r h w : ℕ) → r < h → (r + 1) * w ≤ h * w
+row_fits : (r h w : ℕ) → r < h → (r + 1) * w ≤ h * w
 row_fits r h w l = mul-le (r + 1) w h w (omega arith) (le_refl w)
-
-pub rows_none : (f : ℕ → ℕ → ℕ) (at w : ℕ) (xs : List ℕ) → RowsTo f at w 0 xs xs
-rows_none f at w xs = record { long = refl; written = λ i j iw l. absurd (omega arith); before = λ q l. refl; after = λ q l. refl }
 
 -- one more row
 pub rows_more : (f : ℕ → ℕ → ℕ) (g : ℕ → ℕ) (at w j : ℕ) (xs ys zs : List ℕ) → RowsTo f at w j xs ys → BytesTo g (at + j * w) w ys zs → ((i : ℕ) → i < w → g i ≡ f i j) → RowsTo f at w (j + 1) xs zs
@@ -24,6 +21,3 @@ rows_more f g at w j xs ys zs so to same =
       before = λ q l. to.before q (omega arith) ∙ so.before q l;
       after = λ q l. to.after q (omega arith) ∙ so.after q (omega arith);
     }
-
-pub rows_wrote : (f : ℕ → ℕ → ℕ) (at w h : ℕ) (xs ys : List ℕ) → RowsTo f at w h xs ys → Wrote at (at + h * w) xs ys
-rows_wrote f at w h xs ys so = record { long = so.long; before = so.before; after = so.after }

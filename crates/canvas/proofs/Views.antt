@@ -1,9 +1,10 @@
 -- From the bytes that an operation leaves to the page that they mean. Assumes nothing.
-use Rattle.std.proofs.Common.{◌≡◌, ℕ, ◌+◌, ◌*◌, ◌<◌, ◌≤◌, ◌≢◌, ◌⊎◌, List, [], ◌∷◌, length, get_or, take, set, sym, refl, ap, ◌∙◌, subst, ap₂, subst₂, inl, inr, le_refl, arith, length-set, get_or-set_other, get_or-set_same}
+use Rattle.std.proofs.Common.{◌≡◌, ℕ, ◌+◌, ◌*◌, ◌<◌, ◌≤◌, ◌≢◌, ◌⊎◌, List, [], ◌∷◌, length, get_or, take, set, sym, refl, ap, ◌∙◌, subst, inl, inr, le_refl, arith, length-set, get_or-set_other, get_or-set_same}
 use Rattle.std.proofs.lemmas.Nat.{mul-le, mul-add-lt}
 use Rattle.std.proofs.lemmas.List.{length-map, length-take-le, get_or-map, get_or-take}
 use Rattle.std.proofs.lemmas.Bool.{cases_eq, cases_order}
 use Rattle.pixel.specs.declared.Pixel.{Pixel}
+use Rattle.pixel.specs.declared.sizes.Size.{Size}
 use Rattle.pixel.specs.Bytes.{pixel_at, PixelsTo, BytesTo, Wrote}
 use Rattle.pixel.specs.Pixels.{clear, pixel_lerp}
 use Rattle.pixel.proofs.Steps.{pixel_kept, pixel_before, pixels_wrote, bytes_wrote}
@@ -35,13 +36,13 @@ planes_apart n k m q ne l = elim (two_planes n k m ne) [ inl u ↦ inl (omega ar
 
 module _ (s : Canvas) where
   abbrev w : ℕ
-  w = s.wide
+  w = s.size.wide
 
   abbrev h : ℕ
-  h = s.high
+  h = s.size.high
 
   abbrev n : ℕ
-  n = s.wide * s.high
+  n = s.size.wide * s.size.high
 
   abbrev entry : ℕ → Entry
   entry k = get_or s.layers k no_entry
@@ -177,19 +178,19 @@ module _ (s : Canvas) where
       }
 
 -- the blank page from what three loops leave
-pub blanked : (w h m : ℕ) (s : Canvas) (xs ys zs us : List ℕ) → m ≡ w * h → FreshCanvas w h s → PixelsTo (λ k. clear) 0 m xs ys → BytesTo (λ k. 255) (516 * m) m ys zs →
-    PixelsTo (λ k. clear) (517 * m) m zs us → BlankMade w h xs us s
-blanked w h m s xs ys zs us e new so to up =
-    let n : m ≡ s.wide * s.high = e ∙ sym (ap₂ ◌*◌ new.wide_is new.high_is) in
+pub blanked : (z : Size) (m : ℕ) (s : Canvas) (xs ys zs us : List ℕ) → m ≡ z.wide * z.high → FreshCanvas z s → PixelsTo (λ k. clear) 0 m xs ys → BytesTo (λ k. 255) (516 * m) m ys zs →
+    PixelsTo (λ k. clear) (517 * m) m zs us → BlankMade z xs us s
+blanked z m s xs ys zs us e new so to up =
+    let n : m ≡ s.size.wide * s.size.high = e ∙ sym (ap (λ (y : Size). y.wide * y.high) new.size_is) in
     let first : (q : ℕ) → q < m → pixel_at us (0 + 4 * q) ≡ clear
     = λ q l. pixel_before _ _ _ zs us (0 + 4 * q) up (omega arith) ∙ pixel_kept _ _ ys zs (0 + 4 * q) (bytes_wrote _ _ _ ys zs to) (inl (omega arith)) ∙ so.written q l in
     let middle : (q : ℕ) → q < m → get_or us (516 * m + q) 0 ≡ 255 = λ q l. up.before (516 * m + q) (omega arith) ∙ to.written q l in
-    let view_is : Agree (view s us) (blank s.wide s.high)
+    let view_is : Agree (view s us) (blank s.size.wide s.size.high)
     = blank_view s us new.one_layer new.lowest (new.own_planes 0 no_entry (omega arith)) (λ q l. first q (omega arith))
     (λ q l. ap (λ k. get_or us (516 * k + q) 0) (sym n) ∙ middle q (omega arith)) (λ q l. ap (λ k. pixel_at us (517 * k + 4 * q)) (sym n) ∙ up.written q (omega arith)) in
     record {
       canvas = new;
-      agrees = subst₂ (λ a b. Agree (view s us) (blank a b)) new.wide_is new.high_is view_is;
+      agrees = subst (λ (y : Size). Agree (view s us) (blank y.wide y.high)) new.size_is view_is;
       long = up.long ∙ to.long ∙ so.long;
       between = λ q l u. up.before q (omega arith) ∙ to.before q (omega arith) ∙ so.after q (omega arith);
       beyond = λ q l. up.after q (omega arith) ∙ to.after q (omega arith) ∙ so.after q (omega arith);

@@ -1,5 +1,5 @@
 -- An edit applied to a canvas. Assumes nothing.
-use Rattle.std.specs.Prelude.{◌≡◌, ℕ, true, cond, List, length}
+use Rattle.std.specs.Prelude.{◌≡◌, ℕ, true, if◌then◌else◌, List, length}
 use Rattle.page.specs.Edits as page
 use Rattle.page.specs.Edits.{edited, set_mode}
 use Rattle.page.specs.Agree.{Agree}
@@ -16,11 +16,10 @@ Built bs e = built (kind (edit_of bs e)) ≡ true
 
 -- an edit of another kind changes nothing, as a mode that there is not
 abbrev pub known : page.Edit → page.Edit
-known e = cond (built (kind e)) e (set_mode 255)
+known e = if built (kind e) then e else set_mode 255
 
 -- the page is the one before, edited, and of the same size
 pub record Applied (s : Canvas) (e : page.Edit) (xs : List ℕ) (t : Canvas) (ys : List ℕ) : Type 0 where
   pub agrees : Agree (view t ys) (edited (view s xs) e)
-  pub same_wide : t.wide ≡ s.wide
-  pub same_high : t.high ≡ s.high
+  pub same_size : t.size ≡ s.size
   pub long : length ys ≡ length xs

@@ -1,6 +1,6 @@
 -- Rows of bytes, and the part of a row that a rectangle takes. Assumes nothing.
 use Rattle.std.specs.Prelude.{◌≡◌, ℕ, ◌+◌, ◌*◌, ◌<◌, ◌≤◌, Bool, ◌&&◌, List, length, nat_le, nat_lt, slice_index}
-use Rattle.canvas.specs.declared.state.Rect.{Rect}
+use Rattle.codec.specs.declared.edits.Rect.{Rect}
 
 abbrev pub in_span : ℕ → ℕ → ℕ → Bool
 in_span first last i = nat_le first i && nat_lt i last

@@ -1,6 +1,7 @@
 -- The page read off the canvas and the lent bytes, and what each operation on them leaves. Assumes nothing.
-use Rattle.std.specs.Prelude.{◌≡◌, ℕ, ◌+◌, ◌*◌, ◌<◌, ◌≤◌, true, false, List, map, length, get_or, take, slice_index, slice_index_or}
+use Rattle.std.specs.Prelude.{◌≡◌, ℕ, ◌+◌, ◌*◌, ◌<◌, ◌≤◌, Bool, true, false, ◌&&◌, List, map, length, take, nat_le, nat_lt, slice_index, slice_index_or}
 use Rattle.pixel.specs.declared.Pixel.{Pixel}
+use Rattle.pixel.specs.declared.sizes.Size.{Size}
 use Rattle.pixel.specs.declared.modes.Mode.TheVariants.{Normal}
 use Rattle.pixel.specs.Pixels.{white}
 use Rattle.pixel.specs.Modes.{mode_number}
@@ -10,6 +11,10 @@ use Rattle.page.specs.Edits.{Page, Edit, edited, blank}
 use Rattle.page.specs.Agree.{Agree}
 use Rattle.canvas.specs.declared.state.Layer.{Layer as Entry}
 use Rattle.canvas.specs.declared.state.Canvas.{Canvas}
+
+-- the lent bytes have room for a page of this size
+abbrev pub Room : Size → List ℕ → Type 0
+Room z xs = 544 * (z.wide * z.high) ≤ length xs
 
 -- where things lie, in a page of n pixels
 abbrev pub plane_at : ℕ → ℕ → ℕ
@@ -40,50 +45,45 @@ layers_of w h xs ls = map (layer_of w h xs) ls
 abbrev pub view : Canvas → List ℕ → Page
 view s xs =
     record {
-      wide = s.wide;
-      high = s.high;
-      layers = layers_of s.wide s.high xs (take s.count s.layers);
+      wide = s.size.wide;
+      high = s.size.high;
+      layers = layers_of s.size.wide s.size.high xs (take s.count s.layers);
       active = s.active;
-      selected = λ i j. slice_index xs (selection_at (s.wide * s.high) + (j * s.wide + i));
-      clipboard = λ i j. pixel_at xs (clipboard_at (s.wide * s.high) + 4 * (j * s.wide + i));
+      selected = λ i j. slice_index xs (selection_at (s.size.wide * s.size.high) + (j * s.size.wide + i));
+      clipboard = λ i j. pixel_at xs (clipboard_at (s.size.wide * s.size.high) + 4 * (j * s.size.wide + i));
     }
+
+-- the page has a pixel in column x and row y, and lies wholly in n bytes
+abbrev pub shows : Canvas → ℕ → ℕ → ℕ → Bool
+shows s n x y = (nat_lt x s.size.wide && nat_lt y s.size.high) && nat_le (544 * (s.size.wide * s.size.high)) n
 
 -- what is seen of the first k layers at a pixel
 abbrev pub seen_below : Canvas → List ℕ → ℕ → ℕ → ℕ → Pixel
-seen_below s xs k i j = composite (layers_of s.wide s.high xs (take k s.layers)) (λ x y. white) i j
-
--- a size that a page can have, and bytes enough for it
-pub record Room (w h : ℕ) (xs : List ℕ) : Type 0 where
-  pub some_wide : 1 ≤ w
-  pub most_wide : w ≤ 4096
-  pub some_high : 1 ≤ h
-  pub most_high : h ≤ 4096
-  pub enough : 544 * (w * h) ≤ length xs
+seen_below s xs k i j = composite (layers_of s.size.wide s.size.high xs (take k s.layers)) (λ x y. white) i j
 
 -- a canvas of one layer, every plane with its own entry
-pub record FreshCanvas (w h : ℕ) (s : Canvas) : Type 0 where
-  pub wide_is : s.wide ≡ w
-  pub high_is : s.high ≡ h
+pub record FreshCanvas (z : Size) (s : Canvas) : Type 0 where
+  pub size_is : s.size ≡ z
   pub one_layer : s.count ≡ 1
   pub lowest : s.active ≡ 0
   pub own_planes : (k : ℕ) (d : Entry) → k < 64 → slice_index_or s.layers k d ≡ fresh k
 
 -- the blank page: in bytes the first plane, the selection and the clipboard; all others stay
-pub record BlankMade (w h : ℕ) (xs ys : List ℕ) (s : Canvas) : Type 0 where
-  pub canvas : FreshCanvas w h s
-  pub agrees : Agree (view s ys) (blank w h)
+pub record BlankMade (z : Size) (xs ys : List ℕ) (s : Canvas) : Type 0 where
+  pub canvas : FreshCanvas z s
+  pub agrees : Agree (view s ys) (blank z.wide z.high)
   pub long : length ys ≡ length xs
-  pub between : (q : ℕ) → 4 * (w * h) ≤ q → q < selection_at (w * h) → slice_index ys q ≡ slice_index xs q
-  pub beyond : (q : ℕ) → 521 * (w * h) ≤ q → slice_index ys q ≡ slice_index xs q
+  pub between : (q : ℕ) → 4 * (z.wide * z.high) ≤ q → q < selection_at (z.wide * z.high) → slice_index ys q ≡ slice_index xs q
+  pub beyond : (q : ℕ) → 521 * (z.wide * z.high) ≤ q → slice_index ys q ≡ slice_index xs q
 
 -- an edit of the selection: its bytes alone are written
 pub record Reselected (s : Canvas) (e : Edit) (xs ys : List ℕ) : Type 0 where
   pub agrees : Agree (view s ys) (edited (view s xs) e)
-  pub wrote : Wrote (selection_at (s.wide * s.high)) (clipboard_at (s.wide * s.high)) xs ys
+  pub wrote : Wrote (selection_at (s.size.wide * s.size.high)) (clipboard_at (s.size.wide * s.size.high)) xs ys
 
 -- an edit of the active layer's pixels: its plane alone is written
 pub record PlaneEdited (s : Canvas) (e : Edit) (xs ys : List ℕ) : Type 0 where
   pub agrees : Agree (view s ys) (edited (view s xs) e)
   pub wrote :
-      Wrote (plane_at (s.wide * s.high) (get_or s.layers s.active no_entry).plane)
-      (plane_at (s.wide * s.high) (get_or s.layers s.active no_entry).plane + 4 * (s.wide * s.high)) xs ys
+      Wrote (plane_at (s.size.wide * s.size.high) (slice_index_or s.layers s.active no_entry).plane)
+      (plane_at (s.size.wide * s.size.high) (slice_index_or s.layers s.active no_entry).plane + 4 * (s.size.wide * s.size.high)) xs ys

@@ -1,16 +1,15 @@
 // One edit of any kind that a canvas does itself.
-ghost use Rattle.std.specs.Prelude.{◌≡◌, ℕ, ◌*◌, ◌≤◌, List, length};
-ghost use Rattle.page.specs.Fits.{kind};
-ghost use Rattle.codec.specs.Kinds.{built};
 ghost use Rattle.codec.specs.Meaning.{edit_of};
 ghost use Rattle.canvas.specs.Applying.{known, Applied};
+ghost use Rattle.canvas.specs.View.{Room};
 
-use crate::state::{Canvas, Rect};
+use crate::state::Canvas;
 use codec::edits::Edit;
 
 // One edit, if it is of a kind that there is; `source` holds its points or numbers.
+#[tactic(auto, unfolding(page::specs::Fits::kind))]
 pub fn apply(canvas: &mut Canvas, tiles: &mut [u8], edit: Edit, source: &[u8])
-    requires { 544 * (canvas.old.wide * canvas.old.high) ≤ length tiles.old }
+    requires { Room canvas.old.size tiles.old }
     ensures { Applied canvas.old (known (edit_of source.now edit)) tiles.old canvas.new tiles.new }
 {
     match edit {
@@ -23,20 +22,7 @@ pub fn apply(canvas: &mut Canvas, tiles: &mut [u8], edit: Edit, source: &[u8])
         Edit::SetVisible(b) => canvas.set_visible(b),
         Edit::MergeDown => canvas.merge_down(tiles),
         Edit::SelectAll => canvas.select_all(tiles),
-        Edit::SelectRect {
-            x,
-            y,
-            width,
-            height,
-        } => canvas.select_rect(
-            tiles,
-            Rect {
-                x,
-                y,
-                width,
-                height,
-            },
-        ),
+        Edit::SelectRect(rect) => canvas.select_rect(tiles, rect),
         Edit::SelectInverse => canvas.select_inverse(tiles),
         Edit::Fill(p) => canvas.fill_selected(tiles, p),
         Edit::SelectSimilar { .. }
@@ -44,19 +30,5 @@ pub fn apply(canvas: &mut Canvas, tiles: &mut [u8], edit: Edit, source: &[u8])
         | Edit::ApplyFilter(_)
         | Edit::Copy
         | Edit::Paste { .. } => {}
-    }
-}
-
-// Whether an edit is of a kind that there is.
-pub fn is_known(edit: Edit) -> bool
-    ensures { (bs : List ℕ) → result ≡ built (kind (edit_of bs edit)) }
-{
-    match edit {
-        Edit::SelectSimilar { .. }
-        | Edit::Stroke { .. }
-        | Edit::ApplyFilter(_)
-        | Edit::Copy
-        | Edit::Paste { .. } => false,
-        _ => true,
     }
 }

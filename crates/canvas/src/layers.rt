@@ -1,20 +1,21 @@
 // Edits of the layers: entries change places, and pixels stay where they are.
-ghost use Rattle.std.specs.Prelude.{◌≡◌, ℕ, ◌+◌, ◌-◌, ◌*◌, ◌<◌, ◌≤◌, List, length, MatchOption};
+ghost use Rattle.std.specs.Prelude.{◌≡◌, ℕ, ◌+◌, ◌-◌, ◌<◌, ◌≤◌, List, MatchOption};
 ghost use Rattle.page.specs.Edits.{add_layer, drop_layer, choose_layer, raise_layer, set_mode, set_opacity, set_visible};
 ghost use Rattle.canvas.specs.Arranging.{from_lowered, from_raised, Reordered, Arranged, LayersEdited, LayersPainted};
+ghost use Rattle.canvas.specs.View.{Room};
 
-use crate::layout::area;
 use crate::state::{Canvas, Layer};
 use pixel::CLEAR;
 use pixel::modes::Mode;
 use pixel::runs::set_pixels;
 
 // The entry at `hi` goes down to `lo`, and those from there on one up.
+// Not one function with raise_entry: that would take a direction, and be longer than the two.
 fn lower_entry(layers: &mut [Layer; 64], lo: usize, hi: usize)
     requires { (lo ≤ hi) × (hi < 64) }
     ensures { Reordered (from_lowered lo hi) layers.old layers.new }
 {
-    layers[lo..hi + 1].rotate_right(1);
+    layers[lo..=hi].rotate_right(1);
 }
 
 // The entry at `lo` goes up to `hi`, and those up to there one down.
@@ -22,7 +23,7 @@ fn raise_entry(layers: &mut [Layer; 64], lo: usize, hi: usize)
     requires { (lo ≤ hi) × (hi < 64) }
     ensures { Reordered (from_raised lo hi) layers.old layers.new }
 {
-    layers[lo..hi + 1].rotate_left(1);
+    layers[lo..=hi].rotate_left(1);
 }
 
 impl Canvas {
@@ -31,30 +32,21 @@ impl Canvas {
         ensures { MatchOption result (self.now.count ≤ self.now.active + 1) (λ k. (k ≡ self.now.active + 1) × (k < self.now.count)) }
     {
         let above = self.active + 1;
-        if above < self.count {
-            Some(above)
-        } else {
-            None
-        }
+        (above < self.count).then_some(above)
     }
 
     // A clear layer above the active one: the spare plane at `count` is cleared, and its entry comes into place.
     pub fn add_layer(&mut self, tiles: &mut [u8])
-        requires { 544 * (self.old.wide * self.old.high) ≤ length tiles.old }
+        requires { Room self.old.size tiles.old }
         ensures { LayersPainted self.old add_layer self.old.count tiles.old self.new tiles.new }
     {
         let count = self.count;
         if count >= 64 {
             return;
         }
-        let n = area(self.wide, self.high);
+        let n = self.size.area();
         set_pixels(tiles, self.plane_of(count), n, CLEAR);
-        self.layers[count] = Layer {
-            plane: self.layers[count].plane,
-            mode: Mode::Normal,
-            opacity: 255,
-            visible: true,
-        };
+        self.layers[count] = Layer::fresh(self.layers[count].plane);
         lower_entry(&mut self.layers, self.active + 1, count);
         self.count += 1;
         self.active += 1;
@@ -83,7 +75,7 @@ impl Canvas {
     pub fn choose_layer(&mut self, k: u8)
         ensures { (xs : List ℕ) → LayersEdited self.old (choose_layer k) xs self.new xs }
     {
-        let k = k as usize;
+        let k = usize::from(k);
         if k < self.count {
             self.active = k;
         }
@@ -104,7 +96,7 @@ impl Canvas {
     pub fn set_mode(&mut self, m: u8)
         ensures { (xs : List ℕ) → LayersEdited self.old (set_mode m) xs self.new xs }
     {
-        let Some(mode) = Mode::from_byte(m) else {
+        let Ok(mode) = Mode::try_from(m) else {
             return;
         };
         self.layers[self.active].mode = mode;
@@ -114,9 +106,10 @@ impl Canvas {
     pub fn set_opacity(&mut self, a: u16)
         ensures { (xs : List ℕ) → LayersEdited self.old (set_opacity a) xs self.new xs }
     {
-        if a < 256 {
-            self.layers[self.active].opacity = a as u8;
-        }
+        let Ok(opacity) = u8::try_from(a) else {
+            return;
+        };
+        self.layers[self.active].opacity = opacity;
     }
 
     // Whether it is visible.

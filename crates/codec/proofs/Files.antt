@@ -1,8 +1,8 @@
 -- Files: what the answers of their reader mean.
-use Rattle.std.proofs.Common.{◌≡◌, ℕ, zero, suc, ◌+◌, ◌*◌, ◌/◌, ◌%◌, ◌<◌, ◌≤◌, cond, eqb, ltb, leb, ◌⊎◌, List, [], ◌∷◌, ◌++◌, length, get_or, drop, None, Ok, Err, Option, Result, sym, refl, ap, ◌∙◌, subst, inl, inr, arith, MatchResult}
+use Rattle.std.proofs.Common.{◌≡◌, ℕ, suc, ◌+◌, ◌*◌, ◌/◌, ◌%◌, ◌<◌, ◌≤◌, cond, eqb, ltb, leb, ◌⊎◌, List, [], ◌∷◌, ◌++◌, length, get_or, drop, None, Ok, Err, Option, Result, sym, refl, ap, ◌∙◌, subst, inl, inr, arith, MatchResult}
 use Rattle.std.proofs.lemmas.List.{append-nil, drop_all, drop_at, length-append}
-use Rattle.std.proofs.lemmas.Bool.{ltb-true, ltb-false, leb-true, le-leb, le-ltb, eq-eqb, eqb-true, eqb-false, ne_eqb, cond_both, cond-true, cond-false}
-use Rattle.std.specs.List.{AllByRecursion}
+use Rattle.std.proofs.lemmas.Bool.{ltb-true, ltb-false, leb-true, le-leb, eq-eqb, eqb-true, cond_both, cond-true}
+use Rattle.std.specs.List.{All}
 use Rattle.page.specs.Edits as page
 use Rattle.codec.specs.declared.edits.Refusal.{Refusal}
 use Rattle.codec.specs.declared.edits.Refusal.TheVariants.{NotPage}
@@ -13,16 +13,19 @@ use Rattle.codec.specs.Meaning.{two_at, Bytes}
 use Rattle.codec.specs.Refusals.{number}
 use Rattle.codec.specs.Scan.{End, need}
 use Rattle.codec.specs.Read.{unless}
-use Rattle.codec.specs.Files.{long, all_written, IsFile, Built, Enough, done_of, undone_of, after_edits, on_ok, edits_end, four_at, letter, sized, short_of, head_end, body_from, file_at, whole_file, read_file}
+use Rattle.codec.specs.Files.{long, all_written, IsFile, Built, Enough, done_of, undone_of, after_edits, on_ok, edits_end, four_at, letter, sized, side_refusal, short_of, head_end, body_from, file_at, whole_file, read_file}
 use Rattle.codec.specs.FileLaws.{FileTaken, FileRead, FileWrittenRead}
-use Rattle.codec.proofs.Sound.{same_ok, of_need, of_stop, kind_then, two_then, two_lt}
+use Rattle.codec.proofs.Sound.{same_ok, of_need, kind_then, two_then, two_lt}
 use Rattle.codec.proofs.Complete.{byte_is, two_is, on}
 use Rattle.codec.proofs.Means.{of_unless}
-use Rattle.codec.proofs.Rows.{ok, of_some, of_on, length_from, edits_read, from_written, Scanned, edits_written}
+use Rattle.codec.proofs.Rows.{of_some, of_none, of_on, length_from, edits_read, from_written, Scanned, edits_written}
 
-one_le : (n : ℕ) → (n ≡ 0 → ⊥) → 1 ≤ n
-one_le zero h = absurd (h refl)
-one_le (suc n) h = omega arith
+-- a side that is not refused
+side_of : (n at : ℕ) → side_refusal n at ≡ None → (1 ≤ n) × (n ≤ 4096)
+side_of n at e =
+    let a = of_none (leb 1 n) _ _ e in
+    let b = of_none (leb n 4096) _ _ a.1 in
+    (leb-true 1 n a.0, leb-true n 4096 b.0)
 
 -- enough is lent where no slice is too short
 of_short : (lent : Lengths) (w h : ℕ) → short_of lent w h ≡ None → (544 * (w * h) ≤ lent.tiles) × (w * h ≤ lent.work)
@@ -37,7 +40,8 @@ module _ (bs : List ℕ) where
 
   sized_ok : (i w : ℕ) (e : End) → suc (suc i) ≤ length bs → two_at bs i ≡ w → 1 ≤ w → w ≤ 4096 → sized bs i e ≡ e
   sized_ok i w e h is low high =
-      cond-true _ _ _ (le-leb (0 + suc (suc i)) (length bs) (omega arith)) ∙ (cond-false _ _ _ (ne_eqb (two_at bs i) 0 (λ z. omega arith)) ∙ cond-false _ _ _ (le-ltb 4096 (two_at bs i) (omega arith)))
+      cond-true _ _ _ (le-leb (0 + suc (suc i)) (length bs) (omega arith))
+      ∙ ap (λ o. unless o e) (cond-true _ _ _ (le-leb 1 (two_at bs i) (omega arith)) ∙ cond-true _ _ _ (le-leb (two_at bs i) 4096 (omega arith)))
 
   letter_of : (i b n : ℕ) (e : End) → letter bs i b e ≡ Ok n → (suc i ≤ length bs) × (get_or bs i 0 ≡ b) × (e ≡ Ok n)
   letter_of i b n e h =
@@ -48,8 +52,10 @@ module _ (bs : List ℕ) where
 
   sized_of : (i n : ℕ) (e : End) → sized bs i e ≡ Ok n → (1 ≤ two_at bs i) × (two_at bs i ≤ 4096) × (e ≡ Ok n)
   sized_of i n e h =
-      let a = of_need _ _ _ n h in let b = of_stop _ _ _ n a.1 in let c = of_stop _ _ _ n b.1 in
-      (one_le (two_at bs i) (eqb-false (two_at bs i) 0 b.0), ltb-false 4096 (two_at bs i) c.0, c.1)
+      let a = of_need _ _ _ n h in
+      let b = of_unless (side_refusal (two_at bs i) i) e n a.1 in
+      let c = side_of (two_at bs i) i b.0 in
+      (c.0, c.1, b.1)
 
   four_is : (i x : ℕ) (l : List ℕ) → drop i bs ≡ long x ++ l → four_at bs i ≡ x
   four_is i x l d = omega (arith, two_is bs i (x % 65536) _ d, two_is bs (i + 2) (x / 65536) l (on bs i 2 _ d))
@@ -99,7 +105,7 @@ module _ (bs : List ℕ) (lent : Lengths) (w h : ℕ) (done undone : List page.E
   abbrev Whole : End → Type 0
   Whole x =
       MatchResult x (λ n. n ≡ length bs)
-      (λ g. ((4 ≤ number g) × (Enough lent w h (length done + length undone) → ⊥)) ⊎ ((number g ≡ 3) × (AllByRecursion Built done → AllByRecursion Built undone → ⊥)))
+      (λ g. ((4 ≤ number g) × (Enough lent w h (length done + length undone) → ⊥)) ⊎ ((number g ≡ 3) × (All Built done → All Built undone → ⊥)))
 
   second_row : (n : ℕ) (x : End) → n ≡ 16 + length (all_written done) → Scanned lent.turns (length done) undone n x → Whole x
   second_row n (Ok m) is s = omega (arith, size)
@@ -205,7 +211,7 @@ module _ (bs : List ℕ) (fit : Bytes bs) where
         let q : n ≡ length bs = subst (Whole bs lent w h done undone is) e (file_scanned bs lent w h done undone is) in absurd (omega (arith, ltb-true n (length bs) t)))
         (λ t. taken n e (ltb-false n (length bs) t))
 
-read_file_means : (bs : List ℕ) (lent : Lengths) (r : Result File Refusal) → r ≡ read_file bs lent → Bytes bs → FileRead bs lent r
+pub read_file_means : (bs : List ℕ) (lent : Lengths) (r : Result File Refusal) → r ≡ read_file bs lent → Bytes bs → FileRead bs lent r
 read_file_means bs lent r e fit =
     let P : Result File Refusal → Type 0 = λ x. FileRead bs lent x in
     subst P (sym e) (file_means bs fit lent (on_ok (head_end bs lent) (body_from bs lent.turns)) refl)
@@ -237,23 +243,3 @@ file_read_is bs lent w h done undone f is read =
     of_whole (Ok n) e =
         let P : Result File Refusal → Type 0 = λ r. r ≡ Ok f → file_at bs ≡ f in
         cond_both (ltb n (length bs)) _ _ P (λ t g. let z : ◌≡◌ {A = ℕ} 0 1 = cc in absurd (omega arith)) (λ t g. cc) e
-
--- the scan, step by step, as the reader goes, and what it means
-abbrev pub Answered : List ℕ → Lengths → Result File Refusal → Type 0
-Answered bs lent r = (r ≡ read_file bs lent) × FileRead bs lent r
-
-answer : (bs : List ℕ) (lent : Lengths) (r : Result File Refusal) → Bytes bs → r ≡ read_file bs lent → Answered bs lent r
-answer bs lent r fit e = (e, read_file_means bs lent r e fit)
-
-pub at_start : (bs : List ℕ) (lent : Lengths) (r : Result File Refusal) (f : Refusal) → Bytes bs → r ≡ Err f → Err f ≡ head_end bs lent → Answered bs lent r
-at_start bs lent r f fit is e = answer bs lent r fit (is ∙ ap (λ x. whole_file bs (on_ok x (body_from bs lent.turns))) e)
-
-module _ (bs : List ℕ) (lent : Lengths) (fit : Bytes bs) (start c1 c2 : ℕ) (h : ok start ≡ head_end bs lent) (is1 : c1 ≡ four_at bs 8) (is2 : c2 ≡ four_at bs 12) where
-  scan_body : whole_file bs (on_ok (edits_end bs lent.turns 0 c1 start) (edits_end bs lent.turns c1 c2)) ≡ read_file bs lent
-  scan_body = rw (is1, is2) (ap (λ x. whole_file bs (on_ok x (body_from bs lent.turns))) h)
-
-  pub at_middle : (r : Result File Refusal) (f : Refusal) → r ≡ Err f → Err f ≡ edits_end bs lent.turns 0 c1 start → Answered bs lent r
-  at_middle r f is e = answer bs lent r fit (is ∙ (ap (λ x. whole_file bs (on_ok x (edits_end bs lent.turns c1 c2))) e ∙ scan_body))
-
-  pub at_end : (r : Result File Refusal) (x : End) (middle : ℕ) → ok middle ≡ edits_end bs lent.turns 0 c1 start → x ≡ edits_end bs lent.turns c1 c2 middle → r ≡ whole_file bs x → Answered bs lent r
-  at_end r x middle m e is = answer bs lent r fit (is ∙ (ap (whole_file bs) (e ∙ ap (λ y. on_ok y (edits_end bs lent.turns c1 c2)) m) ∙ scan_body))

@@ -10,12 +10,12 @@ use Rattle.page.specs.Fits.{Fits, kind}
 use Rattle.codec.specs.declared.edits.Turn.{Turn}
 use Rattle.codec.specs.declared.edits.Turn.TheVariants.{Does, Undo, Redo}
 use Rattle.codec.specs.declared.edits.Refusal.{Refusal}
-use Rattle.codec.specs.declared.edits.Refusal.TheVariants.{Ends, NoKind}
+use Rattle.codec.specs.declared.edits.Refusal.TheVariants.{NoKind}
 use Rattle.codec.specs.Kinds.{built}
 use Rattle.codec.specs.Written.{written, written_turn}
 use Rattle.codec.specs.Meaning.{edit_of, turn_of, TurnHeld, Bytes}
 use Rattle.codec.specs.Scan.{end_of, edit_at, End}
-use Rattle.codec.specs.Read.{unless, taken_end, whole_turn, whole_edit, read_turn, edit_and_end, edit_or_none}
+use Rattle.codec.specs.Read.{unless, taken_end, whole_turn, whole_edit, read_turn}
 use Rattle.codec.specs.Laws.{EditGood, TurnFits, TurnBuilt, TurnUnbuilt, Refused, TurnRead}
 use Rattle.codec.proofs.Sound.{reads_written, same_ok, of_need}
 use Rattle.codec.proofs.Complete.{written_read}
@@ -65,13 +65,9 @@ kind_small (apply_filter f) = omega arith
 kind_small copy = omega arith
 kind_small (paste x y) = omega arith
 
--- what is read at `at`, or what stands in for it, is good
-good_or : (bs : List ℕ) (at : ℕ) (x : End) → Bytes bs → end_of bs at ≡ x → EditGood bs (edit_or_none bs at x).0
-good_or bs at (Ok n) fit e = let r = reads_written bs at n fit e in record { fits = r.1; held = r.3 }
-good_or bs at (Err f) fit e = record { fits = omega arith; held = tt }
-
-pub good : (bs : List ℕ) (at : ℕ) → Bytes bs → EditGood bs (edit_and_end bs at).0
-good bs at fit = good_or bs at (end_of bs at) fit refl
+-- what is read at `at` is good
+pub good_at : (bs : List ℕ) (at n : ℕ) → Bytes bs → end_of bs at ≡ Ok n → EditGood bs (edit_at bs at)
+good_at bs at n fit e = let r = reads_written bs at n fit e in record { fits = r.1; held = r.3 }
 
 -- an end that is taken is one of the scan, of a kind that is built, with nothing against it
 pub of_unless : (against : Option Refusal) (x : End) (n : ℕ) → unless against x ≡ Ok n → (against ≡ None) × (x ≡ Ok n)
@@ -207,12 +203,8 @@ read_turn_means bs against r e fit =
     (λ g. does_means bs fit (eqb-false (get_or bs 0 0) 17 h) (eqb-false (get_or bs 0 0) 18 g) against (taken_end bs 0 against) refl)))
 
 -- a turn that is no undo and no redo
-pub other_turn : (bs : List ℕ) (against : Option Refusal) → (get_or bs 0 0 ≡ 17 → ⊥) → (get_or bs 0 0 ≡ 18 → ⊥) → read_turn bs against ≡ whole_edit bs (taken_end bs 0 against)
+other_turn : (bs : List ℕ) (against : Option Refusal) → (get_or bs 0 0 ≡ 17 → ⊥) → (get_or bs 0 0 ≡ 18 → ⊥) → read_turn bs against ≡ whole_edit bs (taken_end bs 0 against)
 other_turn bs against a b = cond-false _ _ _ (ne_eqb (get_or bs 0 0) 17 a) ∙ cond-false _ _ _ (ne_eqb (get_or bs 0 0) 18 b)
-
-pub no_turn : (bs : List ℕ) (against : Option Refusal) → length bs ≡ 0 → Err (Ends 0) ≡ read_turn bs against
-no_turn [] against h = refl
-no_turn (b ∷ bs) against h = absurd (omega arith)
 
 -- a turn that is written is read as the same
 pub written_turn_read : (t : history.Turn) → TurnFits t → TurnBuilt t → MatchResult (read_turn (written_turn t) None) (λ s. turn_of (written_turn t) s ≡ t) (λ f. ⊥)

@@ -119,7 +119,8 @@ module _ (bs : List ℕ) where
   sized_in : (i : ℕ) (e : End) → EndIn e → EndIn (sized bs i e)
   sized_in i e h =
       need_in 0 (suc (suc i)) _
-      (λ r. cond_both (eqb (two_at bs i) 0) _ _ EndIn (λ t few. omega arith) (λ t. cond_both (ltb 4096 (two_at bs i)) _ _ EndIn (λ u few. omega arith) (λ u. h)))
+      (λ r. let P : Option Refusal → Type 0 = λ o. EndIn (unless o e) in
+      cond_both (leb 1 (two_at bs i)) _ _ P (λ t. cond_both (leb (two_at bs i) 4096) _ _ P (λ u. h) (λ u few. omega arith)) (λ t few. omega arith))
 
   head_in : (lent : Lengths) → EndIn (head_end bs lent)
   head_in lent =

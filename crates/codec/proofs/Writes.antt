@@ -1,7 +1,7 @@
 -- What is put, piece after piece, is the writing of the edit.
-use Rattle.std.proofs.Common.{◌≡◌, ℕ, ◌+◌, ◌-◌, ◌*◌, ◌<◌, ◌≤◌, cond, List, [], ◌∷◌, ◌++◌, map, length, get_or, take, drop, is_ok, IfOk, Ok, Err, Result, sym, refl, ap, ◌∙◌, subst, arith}
-use Rattle.std.proofs.lemmas.List.{append_assoc, drop-drop, take_at, take-append-drop, drop_at, length-append, length-drop, length-map, length_push, length-take-le, flat_map_more, map-append, map_more}
-use Rattle.std.proofs.lemmas.Bool.{le-leb, cond-true}
+use Rattle.std.proofs.Common.{◌≡◌, ℕ, ◌+◌, ◌-◌, ◌*◌, ◌<◌, ◌≤◌, List, [], ◌∷◌, ◌++◌, map, length, get_or, take, drop, Ok, sym, refl, ap, ◌∙◌, subst, arith}
+use Rattle.std.proofs.lemmas.List.{append_assoc, take_at, take-append-drop, length-append, length-drop, length-map, length_push, length-take-le, flat_map_more, map-append, map_more, take-map, get_or-map}
+use Rattle.std.proofs.lemmas.List.Folds.{length-flat_map-take}
 use Rattle.page.specs.Edits as page
 use Rattle.page.specs.Edits.{add_layer, drop_layer, choose_layer, raise_layer, set_mode, set_opacity, set_visible, merge_down, select_all, select_rect, select_similar, select_inverse, fill, stroke, apply_filter, copy, paste}
 use Rattle.page.specs.Filters as filters
@@ -12,32 +12,19 @@ use Rattle.codec.specs.declared.edits.Edit.TheVariants.{AddLayer, DropLayer, Cho
 use Rattle.codec.specs.declared.edits.Filter.TheVariants.{Invert, Curve, BoxBlur, Edges}
 use Rattle.codec.specs.Written.{written, filter_written, points}
 use Rattle.codec.specs.Meaning.{edit_of, Bytes, points_at, Held}
-use Rattle.codec.specs.declared.edits.Refusal.{Refusal}
-use Rattle.std.specs.List.{flat_map}
+use Rattle.std.specs.List.{flat_map, All}
+use Rattle.std.proofs.lemmas.List.Elements.{All-tail}
 use Rattle.codec.specs.Scan.{end_of, edit_at}
 use Rattle.codec.specs.Laws.{EditGood}
 use Rattle.codec.specs.Files.{all_written, file_head}
-use Rattle.codec.specs.Put.{put_at, head_of, tail_of, file_of, file_room, file_put, file_answer}
+pub use Rattle.codec.specs.Sinks.{put_put}
+use Rattle.codec.specs.Put.{put_at, head_of, tail_of, file_of, file_room}
 use Rattle.codec.proofs.Sound.{length-points, points_then, reads_written}
 use Rattle.codec.proofs.Complete.{length-points as size-points}
 use Rattle.codec.proofs.Means.{written_long}
 
 pub cut : (s n : ℕ) (bs : List ℕ) → take (s + n - s) (drop s bs) ≡ take n (drop s bs)
 cut s n bs = ap (λ m. take m (drop s bs)) (omega arith)
-
--- one piece put after another
-pub put_put : (xs : List ℕ) (at : ℕ) (ys zs : List ℕ) → at + length ys ≤ length xs → put_at (put_at xs at ys) (at + length ys) zs ≡ put_at xs at (ys ++ zs)
-put_put xs at ys zs h =
-    let p : List ℕ = take at xs ++ ys in
-    let d : List ℕ = drop (at + length ys) xs in
-    let w : put_at xs at ys ≡ p ++ d = sym (append_assoc (take at xs) ys d) in
-    let long : length p ≡ at + length ys = length-append (take at xs) ys ∙ ap (λ n. n + length ys) (length-take-le at xs (omega arith)) in
-    let front : take (at + length ys) (put_at xs at ys) ≡ p = ap (take (at + length ys)) w ∙ take_at p d (at + length ys) long in
-    let back : drop (at + length ys + length zs) (put_at xs at ys) ≡ drop (at + length (ys ++ zs)) xs =
-    sym (drop-drop (length zs) (at + length ys) (put_at xs at ys))
-    ∙ (ap (λ l. drop (length zs) (drop (at + length ys) l)) w ∙ (ap (drop (length zs)) (drop_at p d (at + length ys) long)
-    ∙ (drop-drop (length zs) (at + length ys) xs ∙ ap (λ n. drop n xs) (omega (arith, length-append ys zs))))) in
-    rw (front, back) (append_assoc (take at xs) ys _ ∙ ap (λ l. take at xs ++ l) (sym (append_assoc ys zs _)))
 
 -- head and tail are the writing
 pub head_tail : (bs : List ℕ) (e : Edit) → Bytes bs → Held bs e → head_of e ++ tail_of bs e ≡ written (edit_of bs e)
@@ -50,7 +37,7 @@ head_tail bs (SetOpacity a) fit held = refl
 head_tail bs (SetVisible b) fit held = refl
 head_tail bs MergeDown fit held = refl
 head_tail bs SelectAll fit held = refl
-head_tail bs (SelectRect x y w h) fit held = refl
+head_tail bs (SelectRect r) fit held = refl
 head_tail bs (SelectSimilar n x y) fit held = refl
 head_tail bs SelectInverse fit held = refl
 head_tail bs (Fill d) fit held = refl
@@ -67,31 +54,8 @@ head_tail bs (ApplyFilter Edges) fit held = refl
 head_tail bs Copy fit held = refl
 head_tail bs (Paste x y) fit held = refl
 
--- the two pieces that the writer puts
-module _ (bs : List ℕ) (e : Edit) (fit : Bytes bs) (held : Held bs e) (xs mid p q : List ℕ) (at then : ℕ)
-    (room : at + length (written (edit_of bs e)) ≤ length xs) (p_is : p ≡ head_of e) (q_is : q ≡ tail_of bs e) (mid_is : mid ≡ put_at xs at p) (then_is : then ≡ at + length p) where
-  pieces : p ++ q ≡ written (edit_of bs e)
-  pieces = rw (p_is, q_is) (head_tail bs e fit held)
-
-  sizes : length p + length q ≡ length (written (edit_of bs e))
-  sizes = sym (length-append p q) ∙ ap length pieces
-
-  pub then_room : length mid ≡ length xs → then + length q ≤ length mid
-  then_room same = omega (arith, sizes)
-
-  pub then_put : (last : List ℕ) → last ≡ put_at mid then q → last ≡ put_at xs at (written (edit_of bs e))
-  then_put last h = h ∙ rw (mid_is, then_is) (put_put xs at p q (omega (arith, sizes)) ∙ ap (put_at xs at) pieces)
-
-  pub then_end : (r : ℕ) → r ≡ then + length q → r ≡ at + length (written (edit_of bs e))
-  then_end r h = omega (arith, sizes)
-
--- the two pieces that are added, the second with memory for it
-pub then_added :
-    {E : Type 0} (bs : List ℕ) (e : Edit) → Bytes bs → Held bs e → (old mid last p q : List ℕ) (r : Result (Unit {0}) E) → p ≡ head_of e → q ≡ tail_of bs e →
-    mid ≡ old ++ p → last ≡ cond (is_ok r) (mid ++ q) mid → IfOk r (λ u. last ≡ old ++ written (edit_of bs e))
-then_added bs e fit held old mid last p q (Err x) p_is q_is mid_is last-is = tt
-then_added bs e fit held old mid last p q (Ok u) p_is q_is mid_is last-is =
-    last-is ∙ rw (mid_is, p_is, q_is) (append_assoc old (head_of e) (tail_of bs e) ∙ ap (λ l. old ++ l) (head_tail bs e fit held))
+pub length_head : (bs : List ℕ) (e : Edit) → Bytes bs → Held bs e → length (head_of e) + length (tail_of bs e) ≡ length (written (edit_of bs e))
+length_head bs e fit held = sym (length-append (head_of e) (tail_of bs e)) ∙ ap length (head_tail bs e fit held)
 
 -- the bytes of an edit that is read are its writing, and are there
 module _ (bs : List ℕ) (at n : ℕ) (fit : Bytes bs) (e : end_of bs at ≡ Ok n) where
@@ -160,28 +124,26 @@ put_more xs ys zs start at end es e fits room so put is =
       few = omega (arith, size, so.few, written_short e fits, length_push es e);
     }
 
--- a step of the loop over the edits
-pub put_step :
-    (bs : List ℕ) (edits : List Edit) (i : ℕ) (d : Edit) (xs ys zs : List ℕ) (start at end : ℕ) → i < length edits → EditGood bs (get_or edits i d) →
-    start + 8192 * length edits ≤ length xs → PutRow xs ys start at (map (edit_of bs) (take i edits)) →
-    zs ≡ put_at ys at (written (edit_of bs (get_or edits i d))) → end ≡ at + length (written (edit_of bs (get_or edits i d))) →
-    PutRow xs zs start end (map (edit_of bs) (take (i + 1) edits))
-put_step bs edits i d xs ys zs start at end h good room so put is =
-    let size = length-map (take i edits) (edit_of bs) ∙ length-take-le i edits (omega arith) in
-    subst (PutRow xs zs start end) (sym (map_more (edit_of bs) edits i d h))
-    (put_more xs ys zs start at end (map (edit_of bs) (take i edits)) (edit_of bs (get_or edits i d)) good.fits (omega (arith, size)) so put is)
-
--- there is room for one more
-pub put_room :
-    (bs : List ℕ) (edits : List Edit) (i : ℕ) (e : Edit) (xs ys : List ℕ) (start at : ℕ) → i < length edits → EditGood bs e →
-    start + 8192 * length edits ≤ length xs → length ys ≡ length xs → PutRow xs ys start at (map (edit_of bs) (take i edits)) → at + length (written (edit_of bs e)) ≤ length ys
-put_room bs edits i e xs ys start at h good room same so =
-    let size = length-map (take i edits) (edit_of bs) ∙ length-take-le i edits (omega arith) in
-    omega (arith, so.end, so.few, size, written_short (edit_of bs e) good.fits)
+-- edits are written in few bytes each
+rows_short : (bs : List ℕ) (edits : List Edit) → All (EditGood bs) edits → length (all_written (map (edit_of bs) edits)) ≤ 8192 * length edits
+rows_short bs [] good = omega arith
+rows_short bs (e ∷ edits) good =
+    omega (arith, length-append (written (edit_of bs e)) (all_written (map (edit_of bs) edits)), written_short (edit_of bs e) (good 0 e (omega arith)).fits, rows_short bs edits (All-tail (EditGood bs) e edits good))
 
 pub all_append : (xs ys : List page.Edit) → all_written (xs ++ ys) ≡ all_written xs ++ all_written ys
 all_append [] ys = refl
 all_append (x ∷ xs) ys = ap (λ l. written x ++ l) (all_append xs ys) ∙ sym (append_assoc (written x) (all_written xs) (all_written ys))
+
+-- the edits up to one, and that one
+module _ (bs : List ℕ) (edits : List Edit) (i : ℕ) (d : Edit) (h : i < length edits) where
+  pub rows_more : all_written (map (edit_of bs) (take (i + 1) edits)) ≡ all_written (map (edit_of bs) (take i edits)) ++ written (edit_of bs (get_or edits i d))
+  rows_more = ap (λ es. all_written es) (map_more (edit_of bs) edits i d h) ∙ all_more (map (edit_of bs) (take i edits)) (edit_of bs (get_or edits i d))
+
+  pub rows_within : length (all_written (map (edit_of bs) (take i edits))) + length (written (edit_of bs (get_or edits i d))) ≤ length (all_written (map (edit_of bs) edits))
+  rows_within =
+      let all = length-flat_map-take written (map (edit_of bs) edits) i (edit_of bs d) (omega (arith, length-map edits (edit_of bs))) in
+      subst (λ es. length (all_written es) + length (written (edit_of bs (get_or edits i d))) ≤ length (all_written (map (edit_of bs) edits))) (take-map (edit_of bs) i edits)
+      (subst (λ e. length (all_written (take i (map (edit_of bs) edits))) + length (written e) ≤ length (all_written (map (edit_of bs) edits))) (get_or-map (edit_of bs) edits i d (edit_of bs d) h) all)
 
 -- a step of a loop that adds a piece for each item
 pub added_step :
@@ -193,7 +155,7 @@ added_step f g xs i d old mid last h so is =
 
 -- head and edits are the file
 module _ (bs : List ℕ) (w h : ℕ) (edits : List Edit) (done : ℕ) (within : done ≤ length edits) where
-  file_pieces : file_head w h done (length edits - done) ++ all_written (map (edit_of bs) edits) ≡ file_of bs w h edits done
+  pub file_pieces : file_head w h done (length edits - done) ++ all_written (map (edit_of bs) edits) ≡ file_of bs w h edits done
   file_pieces =
       let d = map (edit_of bs) (take done edits) in let u = map (edit_of bs) (drop done edits) in
       let d_long : length d ≡ done = length-map (take done edits) (edit_of bs) ∙ length-take-le done edits within in
@@ -205,19 +167,8 @@ module _ (bs : List ℕ) (w h : ℕ) (edits : List Edit) (done : ℕ) (within : 
       ∙ (ap (λ n. file_head w h n (length edits - done) ++ (all_written d ++ all_written u)) (sym d_long)
       ∙ ap (λ n. file_head w h (length d) n ++ (all_written d ++ all_written u)) (sym u_long))
 
-  pub added_file :
-      {E : Type 0} (old mid last : List ℕ) (r : Result (Unit {0}) E) → mid ≡ old ++ file_head w h done (length edits - done) →
-      IfOk r (λ u. last ≡ mid ++ all_written (map (edit_of bs) edits)) → IfOk r (λ u. last ≡ old ++ file_of bs w h edits done)
-  added_file old mid last (Err x) m e = tt
-  added_file old mid last (Ok u) m e = e ∙ (ap (λ l. l ++ all_written (map (edit_of bs) edits)) m ∙ (append_assoc old _ _ ∙ ap (λ l. old ++ l) file_pieces))
+  pub file_size : length (file_head w h done (length edits - done)) + length (all_written (map (edit_of bs) edits)) ≡ length (file_of bs w h edits done)
+  file_size = sym (length-append (file_head w h done (length edits - done)) (all_written (map (edit_of bs) edits))) ∙ ap length file_pieces
 
-  module _ (out mid last : List ℕ) (start r : ℕ) (room : file_room edits ≤ length out) (mid_is : mid ≡ put_at out 0 (file_head w h done (length edits - done))) (start_is : start ≡ 16) where
-    pub put_file : last ≡ put_at mid start (all_written (map (edit_of bs) edits)) → last ≡ file_put out (file_of bs w h edits done) edits
-    put_file e =
-        e ∙ (rw (mid_is, start_is) (put_put out 0 (file_head w h done (length edits - done)) (all_written (map (edit_of bs) edits)) (omega arith))
-        ∙ (ap (put_at out 0) file_pieces ∙ sym (cond-true _ _ _ (le-leb (file_room edits) (length out) room))))
-
-    pub file_end : r ≡ start + length (all_written (map (edit_of bs) edits)) → ◌≡◌ {A = Result ℕ Refusal} (Ok r) (file_answer out (file_of bs w h edits done) edits)
-    file_end e =
-        let size : r ≡ length (file_of bs w h edits done) = omega (arith, ap length file_pieces) in
-        ap (λ (n : ℕ). let x : Result ℕ Refusal = Ok n in x) size ∙ sym (cond-true _ _ _ (le-leb (file_room edits) (length out) room))
+  pub file_short : All (EditGood bs) edits → length (file_of bs w h edits done) ≤ file_room edits
+  file_short good = omega (arith, file_size, rows_short bs edits good)

@@ -1,6 +1,6 @@
 -- What reading and writing of files have to do with each other. Assumes nothing.
 use Rattle.std.specs.Prelude.{◌≡◌, ℕ, ◌+◌, ◌≤◌, ◌⊎◌, List, ◌++◌, length, IfErr, Result, MatchResult}
-use Rattle.std.specs.List.{AllByRecursion}
+use Rattle.std.specs.List.{All}
 use Rattle.page.specs.Edits as page
 use Rattle.codec.specs.declared.edits.Refusal.{Refusal}
 use Rattle.codec.specs.declared.file.File.{File}
@@ -11,7 +11,7 @@ use Rattle.codec.specs.Files.{IsFile, Built, Enough, edits_from, after_edits, do
 -- a file that is taken: the bytes are its writing and nothing else, its counts are those of its edits, and enough is lent
 pub record FileTaken (bs : List ℕ) (lent : Lengths) (f : File) : Type 0 where
   pub is_file : IsFile bs f.width f.height (done_of bs f) (undone_of bs f)
-  pub is_built : AllByRecursion Built (done_of bs f) × AllByRecursion Built (undone_of bs f)
+  pub is_built : All Built (done_of bs f) × All Built (undone_of bs f)
   pub counts : (length (done_of bs f) ≡ f.done) × (length (undone_of bs f) ≡ f.undone)
   pub enough : Enough lent f.width f.height (f.done + f.undone)
 
@@ -19,7 +19,7 @@ pub record FileTaken (bs : List ℕ) (lent : Lengths) (f : File) : Type 0 where
 abbrev pub FileRefused : List ℕ → Lengths → Refusal → Type 0
 FileRefused bs lent f =
     (w h : ℕ) (done undone : List page.Edit) → IsFile bs w h done undone →
-    ((4 ≤ number f) × (Enough lent w h (length done + length undone) → ⊥)) ⊎ ((number f ≡ 3) × (AllByRecursion Built done → AllByRecursion Built undone → ⊥))
+    ((4 ≤ number f) × (Enough lent w h (length done + length undone) → ⊥)) ⊎ ((number f ≡ 3) × (All Built done → All Built undone → ⊥))
 
 abbrev pub FileRead : List ℕ → Lengths → Result File Refusal → Type 0
 FileRead bs lent r = MatchResult r (FileTaken bs lent) (FileRefused bs lent)
@@ -28,7 +28,7 @@ FileRead bs lent r = MatchResult r (FileTaken bs lent) (FileRefused bs lent)
 abbrev pub FileWrittenRead : Type 0
 FileWrittenRead =
     (bs : List ℕ) (lent : Lengths) (w h : ℕ) (done undone : List page.Edit) → IsFile bs w h done undone →
-    AllByRecursion Built done → AllByRecursion Built undone → Enough lent w h (length done + length undone) →
+    All Built done → All Built undone → Enough lent w h (length done + length undone) →
     MatchResult (read_file bs lent) (λ f. (f.width ≡ w) × (f.height ≡ h) × (done_of bs f ≡ done) × (undone_of bs f ≡ undone)) (λ f. ⊥)
 
 -- edits that are read one after the other: those of the first a, then those of the next b

@@ -8,4 +8,5 @@ pub mod Laws
 pub mod Files
 pub mod FileLaws
 pub mod Put
+pub mod Sinks
 pub mod Reach

@@ -1,5 +1,6 @@
 -- What the code's values mean over the bytes that they were read from. Assumes nothing.
 use Rattle.std.specs.Prelude.{ℕ, zero, suc, ◌+◌, ◌*◌, ◌<◌, ◌≤◌, List, [], ◌∷◌, length, take, drop, slice_index}
+use Rattle.std.proofs.Props.{props}
 use Rattle.page.specs.Edits as page
 use Rattle.page.specs.Edits.{add_layer, drop_layer, choose_layer, raise_layer, set_mode, set_opacity, set_visible, merge_down, select_all, select_rect, select_similar, select_inverse, fill, stroke, apply_filter, copy, paste}
 use Rattle.page.specs.Filters as filters
@@ -38,7 +39,7 @@ edit_of bs (SetOpacity a) = set_opacity a
 edit_of bs (SetVisible b) = set_visible b
 edit_of bs MergeDown = merge_down
 edit_of bs SelectAll = select_all
-edit_of bs (SelectRect x y w h) = select_rect x y w h
+edit_of bs (SelectRect r) = select_rect r.x r.y r.width r.height
 edit_of bs (SelectSimilar n x y) = select_similar n x y
 edit_of bs SelectInverse = select_inverse
 edit_of bs (Fill d) = fill d
@@ -69,7 +70,7 @@ Held bs (SetOpacity a) = Unit {0}
 Held bs (SetVisible b) = Unit {0}
 Held bs MergeDown = Unit {0}
 Held bs SelectAll = Unit {0}
-Held bs (SelectRect x y w h) = Unit {0}
+Held bs (SelectRect r) = Unit {0}
 Held bs (SelectSimilar n x y) = Unit {0}
 Held bs SelectInverse = Unit {0}
 Held bs (Fill d) = Unit {0}
@@ -77,6 +78,32 @@ Held bs (Stroke d r start count) = start + 4 * count ≤ length bs
 Held bs (ApplyFilter f) = FilterHeld bs f
 Held bs Copy = Unit {0}
 Held bs (Paste x y) = Unit {0}
+
+-- it is a fact and nothing more
+filter_held_prop : (bs : List ℕ) (f : Filter) → IsProp (FilterHeld bs f)
+filter_held_prop bs Invert = hlevel props
+filter_held_prop bs (Curve start) = hlevel props
+filter_held_prop bs (BoxBlur r) = hlevel props
+filter_held_prop bs Edges = hlevel props
+
+pub held_prop : (bs : List ℕ) (e : Edit) → IsProp (Held bs e)
+held_prop bs AddLayer = hlevel props
+held_prop bs DropLayer = hlevel props
+held_prop bs (ChooseLayer k) = hlevel props
+held_prop bs RaiseLayer = hlevel props
+held_prop bs (SetMode m) = hlevel props
+held_prop bs (SetOpacity a) = hlevel props
+held_prop bs (SetVisible b) = hlevel props
+held_prop bs MergeDown = hlevel props
+held_prop bs SelectAll = hlevel props
+held_prop bs (SelectRect r) = hlevel props
+held_prop bs (SelectSimilar n x y) = hlevel props
+held_prop bs SelectInverse = hlevel props
+held_prop bs (Fill d) = hlevel props
+held_prop bs (Stroke d r start count) = hlevel props
+held_prop bs (ApplyFilter f) = filter_held_prop bs f
+held_prop bs Copy = hlevel props
+held_prop bs (Paste x y) = hlevel props
 
 abbrev pub TurnHeld : List ℕ → Turn → Type 0
 TurnHeld bs (Does e) = Held bs e

@@ -1,6 +1,7 @@
 -- Bytes put into others, and what the writer puts. Assumes nothing.
-use Rattle.std.specs.Prelude.{ℕ, ◌+◌, ◌*◌, cond, List, [], ◌∷◌, ◌++◌, map, length, take, drop, Ok, Err, Result, nat_le}
+use Rattle.std.specs.Prelude.{ℕ, ◌+◌, ◌*◌, if◌then◌else◌, List, [], ◌∷◌, ◌++◌, map, length, take, drop, Ok, Err, Result, nat_le}
 use Rattle.codec.specs.declared.edits.Edit.{Edit}
+use Rattle.codec.specs.declared.listing.Listing.{Listing}
 use Rattle.codec.specs.declared.edits.Edit.TheVariants.{AddLayer, DropLayer, ChooseLayer, RaiseLayer, SetMode, SetOpacity, SetVisible, MergeDown, SelectAll, SelectRect, SelectSimilar, SelectInverse, Fill, Stroke, ApplyFilter, Copy, Paste}
 use Rattle.codec.specs.declared.edits.Filter.{Filter}
 use Rattle.codec.specs.declared.edits.Filter.TheVariants.{Invert, Curve, BoxBlur, Edges}
@@ -32,7 +33,7 @@ head_of (SetOpacity a) = 5 ∷ two a
 head_of (SetVisible b) = 6 ∷ flag b ∷ []
 head_of MergeDown = 7 ∷ []
 head_of SelectAll = 8 ∷ []
-head_of (SelectRect x y w h) = 9 ∷ (two x ++ (two y ++ (two w ++ two h)))
+head_of (SelectRect r) = 9 ∷ (two r.x ++ (two r.y ++ (two r.width ++ two r.height)))
 head_of (SelectSimilar n x y) = 10 ∷ n ∷ (two x ++ two y)
 head_of SelectInverse = 11 ∷ []
 head_of (Fill d) = 12 ∷ four d
@@ -57,7 +58,7 @@ tail_of bs (SetOpacity a) = []
 tail_of bs (SetVisible b) = []
 tail_of bs MergeDown = []
 tail_of bs SelectAll = []
-tail_of bs (SelectRect x y w h) = []
+tail_of bs (SelectRect r) = []
 tail_of bs (SelectSimilar n x y) = []
 tail_of bs SelectInverse = []
 tail_of bs (Fill d) = []
@@ -70,13 +71,16 @@ tail_of bs (Paste x y) = []
 abbrev pub file_of : List ℕ → ℕ → ℕ → List Edit → ℕ → List ℕ
 file_of bs w h edits done = file_written w h (map (edit_of bs) (take done edits)) (map (edit_of bs) (drop done edits))
 
+abbrev pub file_listed : Listing → List ℕ
+file_listed l = file_of l.source.now l.width l.height l.edits.now l.done
+
 -- what is lent for it
 abbrev pub file_room : List Edit → ℕ
 file_room edits = 16 + 8192 * length edits
 
 -- what the bytes are after it is written, and what the writer says: nothing is written where too little is lent
 abbrev pub file_put : List ℕ → List ℕ → List Edit → List ℕ
-file_put out file edits = cond (nat_le (file_room edits) (length out)) (put_at out 0 file) out
+file_put out file edits = if nat_le (file_room edits) (length out) then put_at out 0 file else out
 
 abbrev pub file_answer : List ℕ → List ℕ → List Edit → Result ℕ Refusal
-file_answer out file edits = cond (nat_le (file_room edits) (length out)) (Ok (length file)) (Err (Short File))
+file_answer out file edits = if nat_le (file_room edits) (length out) then Ok (length file) else Err (Short File)

@@ -1,5 +1,5 @@
 -- How bytes are read as a turn: at a first byte the kind comes first, then what the caller has against any turn there, then the bytes behind. Assumes nothing.
-use Rattle.std.specs.Prelude.{ℕ, cond, List, length, Some, None, Ok, Err, Option, Result, ◌==◌, nat_lt, slice_index}
+use Rattle.std.specs.Prelude.{ℕ, if◌then◌else◌, List, length, Some, None, Ok, Err, Option, Result, ◌==◌, nat_lt, slice_index}
 use Rattle.codec.specs.declared.edits.Edit.{Edit}
 use Rattle.codec.specs.declared.edits.Edit.TheVariants.{SetMode}
 use Rattle.codec.specs.declared.edits.Turn.{Turn}
@@ -17,11 +17,11 @@ unless (Some f) r = Err f
 -- the end of the edit that starts at `at`, of a kind that is built
 abbrev pub taken_end : List ℕ → ℕ → Option Refusal → End
 taken_end bs at against =
-    need bs at 1 (cond (built (slice_index bs at)) (unless against (end_of bs at)) (Err (NoKind at)))
+    need bs at 1 (if built (slice_index bs at) then unless against (end_of bs at) else Err (NoKind at))
 
 -- the turn t where the bytes end at n
 abbrev pub whole_turn : List ℕ → Turn → ℕ → Result Turn Refusal
-whole_turn bs t n = cond (nat_lt n (length bs)) (Err (GoesOn n)) (Ok t)
+whole_turn bs t n = if nat_lt n (length bs) then Err (GoesOn n) else Ok t
 
 abbrev pub whole_edit : List ℕ → End → Result Turn Refusal
 whole_edit bs (Ok n) = whole_turn bs (Does (edit_at bs 0)) n
@@ -29,8 +29,8 @@ whole_edit bs (Err f) = Err f
 
 abbrev pub turn_by : List ℕ → Option Refusal → ℕ → Result Turn Refusal
 turn_by bs against k =
-    cond (k == 17) (unless against (whole_turn bs Undo 1))
-    (cond (k == 18) (unless against (whole_turn bs Redo 1)) (whole_edit bs (taken_end bs 0 against)))
+    if k == 17 then unless against (whole_turn bs Undo 1)
+    else (if k == 18 then unless against (whole_turn bs Redo 1) else whole_edit bs (taken_end bs 0 against))
 
 abbrev pub read_turn : List ℕ → Option Refusal → Result Turn Refusal
 read_turn bs against = turn_by bs against (slice_index bs 0)

@@ -1,5 +1,5 @@
 -- The number of a refusal, and its place: the byte that it is about, or which lent slice is too short. Assumes nothing.
-use Rattle.std.specs.Prelude.{ℕ}
+use Rattle.std.specs.Prelude.{ℕ, List, ◌++◌, codes, decimal}
 use Rattle.codec.specs.declared.edits.Lent.{Lent}
 use Rattle.codec.specs.declared.edits.Lent.TheVariants.{Turns, Tiles, Work, File}
 use Rattle.codec.specs.declared.edits.Refusal.{Refusal}
@@ -36,3 +36,7 @@ place (NoFlag p) = p
 place (NoSize p) = p
 place (TooMany p) = p
 place (Short l) = lent_place l
+
+-- what is said of a refusal
+abbrev pub refused_text : Refusal → List ℕ
+refused_text why = codes "refused " ++ (decimal (number why) ++ (codes " at " ++ decimal (place why)))

@@ -1,5 +1,5 @@
 -- Where an edit of any kind ends in bytes, or why there is none, and which one it is. Assumes nothing.
-use Rattle.std.specs.Prelude.{◌≡◌, ℕ, ◌+◌, ◌*◌, ◌≤◌, cond, List, [], ◌∷◌, length, get_or, Ok, Err, Result, ◌==◌, nat_le, nat_lt, slice_index, slice_index_or}
+use Rattle.std.specs.Prelude.{◌≡◌, ℕ, ◌+◌, ◌*◌, ◌≤◌, if◌then◌else◌, List, [], ◌∷◌, length, Ok, Err, Result, ◌==◌, nat_le, nat_lt, slice_index, slice_index_or}
 use Rattle.pixel.specs.Bytes.{pixel_at}
 use Rattle.codec.specs.declared.edits.Edit.{Edit}
 use Rattle.codec.specs.declared.edits.Edit.TheVariants.{AddLayer, DropLayer, ChooseLayer, RaiseLayer, SetMode, SetOpacity, SetVisible, MergeDown, SelectAll, SelectRect, SelectSimilar, SelectInverse, Fill, Stroke, ApplyFilter, Copy, Paste}
@@ -14,7 +14,7 @@ End = Result ℕ Refusal
 
 -- what comes where there are n bytes from `at` on
 abbrev pub need : List ℕ → ℕ → ℕ → End → End
-need bs at n e = cond (nat_le (at + n) (length bs)) e (Err (Ends (length bs)))
+need bs at n e = if nat_le (at + n) (length bs) then e else Err (Ends (length bs))
 
 -- how many bytes of each kind stand before what its length depends on
 abbrev pub heads : List ℕ
@@ -22,38 +22,38 @@ heads = 1 ∷ 1 ∷ 2 ∷ 1 ∷ 2 ∷ 3 ∷ 2 ∷ 1 ∷ 1 ∷ 9 ∷ 6 ∷ 1 ∷ 
 
 abbrev pub stroke_end : List ℕ → ℕ → End
 stroke_end bs at =
-    cond (nat_lt 1024 (two_at bs (at + 6))) (Err (ManyPoints (at + 6)))
-    (need bs at (8 + 4 * two_at bs (at + 6)) (Ok (at + (8 + 4 * two_at bs (at + 6)))))
+    if nat_lt 1024 (two_at bs (at + 6)) then Err (ManyPoints (at + 6))
+    else need bs at (8 + 4 * two_at bs (at + 6)) (Ok (at + (8 + 4 * two_at bs (at + 6))))
 
 -- the end of the filter f
 abbrev pub filter_end_by : List ℕ → ℕ → ℕ → End
 filter_end_by bs at f =
-    cond (nat_lt 3 f) (Err (NoFilter (at + 1)))
-    (cond (f == 1) (need bs at 258 (Ok (at + 258)))
-    (cond (f == 2) (need bs at 3 (cond (nat_lt 64 (slice_index bs (at + 2))) (Err (WideBlur (at + 2))) (Ok (at + 3)))) (Ok (at + 2))))
+    if nat_lt 3 f then Err (NoFilter (at + 1))
+    else (if f == 1 then need bs at 258 (Ok (at + 258))
+    else (if f == 2 then need bs at 3 (if nat_lt 64 (slice_index bs (at + 2)) then Err (WideBlur (at + 2)) else Ok (at + 3)) else Ok (at + 2)))
 
 abbrev pub filter_end : List ℕ → ℕ → End
 filter_end bs at = filter_end_by bs at (slice_index bs (at + 1))
 
 abbrev pub flag_end : List ℕ → ℕ → End
-flag_end bs at = cond (nat_lt 1 (slice_index bs (at + 1))) (Err (NoFlag (at + 1))) (Ok (at + 2))
+flag_end bs at = if nat_lt 1 (slice_index bs (at + 1)) then Err (NoFlag (at + 1)) else Ok (at + 2)
 
 abbrev pub body_end : List ℕ → ℕ → ℕ → End
 body_end bs at k =
-    cond (k == 6) (flag_end bs at)
-    (cond (k == 13) (stroke_end bs at) (cond (k == 14) (filter_end bs at) (Ok (at + slice_index heads k))))
+    if k == 6 then flag_end bs at
+    else (if k == 13 then stroke_end bs at else (if k == 14 then filter_end bs at else Ok (at + slice_index heads k)))
 
 -- the end of the edit that starts at `at`
 abbrev pub end_of : List ℕ → ℕ → End
 end_of bs at =
     need bs at 1
-    (cond (nat_lt 16 (slice_index bs at)) (Err (NoKind at)) (need bs at (slice_index heads (slice_index bs at)) (body_end bs at (slice_index bs at))))
+    (if nat_lt 16 (slice_index bs at) then Err (NoKind at) else need bs at (slice_index heads (slice_index bs at)) (body_end bs at (slice_index bs at)))
 
 -- the bytes hold an edit's head, and a blur's radius
 pub record Headed (bs : List ℕ) (at : ℕ) : Type 0 where
-  pub a_kind : get_or bs at 0 ≤ 16
+  pub a_kind : slice_index bs at ≤ 16
   pub head : at + slice_index heads (slice_index bs at) ≤ length bs
-  pub radius : get_or bs at 0 ≡ 14 → slice_index bs (at + 1) ≡ 2 → at + 3 ≤ length bs
+  pub radius : slice_index bs at ≡ 14 → slice_index bs (at + 1) ≡ 2 → at + 3 ≤ length bs
 
 abbrev pub filter_by : List ℕ → ℕ → ℕ → Filter
 filter_by bs at f = slice_index_or (Invert ∷ Curve (at + 2) ∷ BoxBlur (slice_index bs (at + 2)) ∷ []) f Edges
@@ -64,10 +64,10 @@ filter_at bs at = filter_by bs at (slice_index bs (at + 1))
 -- the edit of kind k at `at`
 abbrev pub edit_by : List ℕ → ℕ → ℕ → Edit
 edit_by bs at k =
-    get_or
+    slice_index_or
     (AddLayer ∷ DropLayer ∷ ChooseLayer (slice_index bs (at + 1)) ∷ RaiseLayer ∷ SetMode (slice_index bs (at + 1))
     ∷ SetOpacity (two_at bs (at + 1)) ∷ SetVisible (slice_index bs (at + 1) == 1) ∷ MergeDown ∷ SelectAll
-    ∷ SelectRect (two_at bs (at + 1)) (two_at bs (at + 3)) (two_at bs (at + 5)) (two_at bs (at + 7))
+    ∷ SelectRect (record { x = two_at bs (at + 1); y = two_at bs (at + 3); width = two_at bs (at + 5); height = two_at bs (at + 7) })
     ∷ SelectSimilar (slice_index bs (at + 1)) (two_at bs (at + 2)) (two_at bs (at + 4)) ∷ SelectInverse
     ∷ Fill (pixel_at bs (at + 1)) ∷ Stroke (pixel_at bs (at + 1)) (slice_index bs (at + 5)) (at + 8) (two_at bs (at + 6))
     ∷ ApplyFilter (filter_at bs at) ∷ Copy ∷ [])

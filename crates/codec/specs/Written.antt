@@ -1,5 +1,5 @@
 -- The bytes that write an edit and a turn, numbers low byte first. Assumes nothing.
-use Rattle.std.specs.Prelude.{ℕ, ◌/◌, ◌%◌, Bool, cond, List, [], ◌∷◌, ◌++◌, length}
+use Rattle.std.specs.Prelude.{ℕ, ◌/◌, ◌%◌, Bool, if◌then◌else◌, List, [], ◌∷◌, ◌++◌, length}
 use Rattle.pixel.specs.declared.Pixel.{Pixel}
 use Rattle.page.specs.Edits as page
 use Rattle.page.specs.Edits.{add_layer, drop_layer, choose_layer, raise_layer, set_mode, set_opacity, set_visible, merge_down, select_all, select_rect, select_similar, select_inverse, fill, stroke, apply_filter, copy, paste}
@@ -19,7 +19,7 @@ points [] = []
 points (a ∷ ats) = two a.0 ++ (two a.1 ++ points ats)
 
 abbrev pub flag : Bool → ℕ
-flag b = cond b 1 0
+flag b = if b then 1 else 0
 
 abbrev pub filter_written : filters.Filter → List ℕ
 filter_written invert = 0 ∷ []

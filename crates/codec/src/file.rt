@@ -1,12 +1,15 @@
 // Reading a file: a pass that validates it and changes nothing. Its edits start at byte 16.
-ghost use Rattle.std.specs.Prelude.{◌≡◌, ℕ, ◌+◌, ◌*◌, ◌<◌, ◌≤◌, length};
-ghost use Rattle.codec.specs.Files.{short_of, against_edit, edits_end, head_end, four_at, read_file};
+ghost use Rattle.std.specs.Prelude.{◌≡◌, ℕ, ◌+◌, ◌*◌, ◌<◌, ◌≤◌, length, IfOk, MatchResult, Ok, Some, None};
+ghost use Rattle.codec.specs.Files.{Checks, letters, side_refusal, size_refusal, sized, against_edit, edits_end, head_end, four_at, read_file};
+ghost use Rattle.codec.specs.Meaning.{two_at};
+ghost use Rattle.codec.specs.Read.{unless};
 ghost use Rattle.codec.specs.FileLaws.{FileRead};
 
 use crate::edits::{Lent, Refusal};
 use crate::read::{taken_end, two};
+use pixel::sizes::{MOST, Size};
 
-#[derive(Clone, Copy)]
+#[derive(Clone, Copy, Debug, PartialEq, Eq)]
 pub struct File {
     pub width: u16,
     pub height: u16,
@@ -15,48 +18,49 @@ pub struct File {
 }
 
 // How long the lent slices are; `work` in words of 32 bits.
-#[derive(Clone, Copy)]
+#[derive(Clone, Copy, Debug, PartialEq, Eq)]
 pub struct Lengths {
     pub turns: usize,
     pub tiles: usize,
     pub work: usize,
 }
 
-macro_rules! letter {
-    ($bytes:ident, $i:expr, $letter:expr) => {
-        if $bytes.len() <= $i {
-            return Err(Refusal::Ends($bytes.len()));
+impl Lengths {
+    ghost use Rattle.codec.specs.Files.{short_for};
+    ghost use Rattle.codec.specs.Read.{unless};
+
+    // Whether as much is lent as a page of that many pixels wants; divided, since no area is too large for that.
+    pub fn enough(self, area: usize) -> Result<(), Refusal>
+        ensures { result ≡ unless (short_for self area) (Ok tt) }
+    {
+        if self.tiles / 544 < area {
+            return Err(Refusal::Short(Lent::Tiles));
         }
-        if $bytes[$i] != $letter {
-            return Err(Refusal::NotPage);
+        if self.work < area {
+            return Err(Refusal::Short(Lent::Work));
         }
-    };
+        Ok(())
+    }
 }
 
-macro_rules! size {
-    ($bytes:ident, $i:expr) => {
-        if $bytes.len() < $i + 2 {
-            return Err(Refusal::Ends($bytes.len()));
-        }
-        let side = two($bytes, $i);
-        if side == 0 || side > 4096 {
-            return Err(Refusal::NoSize($i));
-        }
-    };
-}
-
-// Which lent slice is too short for a page of that size, if one is.
-pub fn short(lent: Lengths, width: u16, height: u16) -> Option<Refusal>
-    ensures { result ≡ short_of lent width height }
+// A side of a page, if a page has such a one; a file has it at byte `at`.
+fn side(pixels: usize, at: usize) -> Result<usize, Refusal>
+    ensures is { result ≡ unless (side_refusal pixels at) (Ok pixels) }
+    ensures sized { IfOk result (λ n. (1 ≤ n) × (n ≤ 4096)) }
 {
-    let area = width as usize * height as usize;
-    if lent.tiles < 544 * area {
-        return Some(Refusal::Short(Lent::Tiles));
+    if pixels < 1 || pixels > MOST {
+        return Err(Refusal::NoSize(at));
     }
-    if lent.work < area {
-        return Some(Refusal::Short(Lent::Work));
-    }
-    None
+    Ok(pixels)
+}
+
+// The size of a page, if a page has such a one.
+pub fn page_size(wide: usize, high: usize) -> Result<Size, Refusal>
+    ensures { MatchResult result (λ s. (size_refusal wide high ≡ None) × (s.wide ≡ wide) × (s.high ≡ high)) (λ why. size_refusal wide high ≡ Some why) }
+{
+    let wide = side(wide, 4)?;
+    let high = side(high, 6)?;
+    Ok(Size { wide, high })
 }
 
 // What stands against the edit that comes after k others, at its first byte.
@@ -72,19 +76,39 @@ pub fn against_edit(turns: usize, k: usize, at: usize) -> Option<Refusal>
     None
 }
 
+// Whether the bytes begin with the letters of a file.
+fn begins(bytes: &[u8]) -> Result<(), Refusal>
+    ensures { Checks (letters bytes.now) result }
+{
+    if bytes.starts_with(b"PAGE") {
+        Ok(())
+    } else if b"PAGE".starts_with(bytes) {
+        Err(Refusal::Ends(bytes.len()))
+    } else {
+        Err(Refusal::NotPage)
+    }
+}
+
+// The side of the page that stands at `at`.
+fn side_at(bytes: &[u8], at: usize) -> Result<usize, Refusal>
+    requires { at < 65536 }
+    ensures check { Checks (sized bytes.now at) result }
+    ensures is { IfOk result (λ n. (n ≡ two_at bytes.now at) × (1 ≤ n) × (n ≤ 4096)) }
+{
+    if bytes.len() < at + 2 {
+        return Err(Refusal::Ends(bytes.len()));
+    }
+    side(two(bytes, at) as usize, at)
+}
+
 // Where the edits start, or what is wrong before them.
 fn head_end(bytes: &[u8], lent: Lengths) -> Result<usize, Refusal>
     ensures { result ≡ head_end bytes.now lent }
 {
-    letter!(bytes, 0, b'P');
-    letter!(bytes, 1, b'A');
-    letter!(bytes, 2, b'G');
-    letter!(bytes, 3, b'E');
-    size!(bytes, 4);
-    size!(bytes, 6);
-    if let Some(why) = short(lent, two(bytes, 4), two(bytes, 6)) {
-        return Err(why);
-    }
+    begins(bytes)?;
+    let wide = side_at(bytes, 4)?;
+    let high = side_at(bytes, 6)?;
+    lent.enough(wide * high)?;
     if bytes.len() < 16 {
         return Err(Refusal::Ends(bytes.len()));
     }
@@ -95,10 +119,11 @@ fn four(bytes: &[u8], at: usize) -> u32
     requires { at + 3 < length bytes.now }
     ensures { result ≡ four_at bytes.now at }
 {
-    two(bytes, at) as u32 + 65536 * two(bytes, at + 2) as u32
+    u32::from_le_bytes([bytes[at], bytes[at + 1], bytes[at + 2], bytes[at + 3]])
 }
 
 // Where `count` edits end that start at `start`, after `before` others of the file.
+#[tactic(auto, using(crate::proofs::Rows::edits_step))]
 fn edits_end(
     bytes: &[u8],
     turns: usize,
@@ -108,15 +133,16 @@ fn edits_end(
 ) -> Result<usize, Refusal>
     ensures { result ≡ edits_end bytes.now turns before count start }
 {
+    let before = before as usize;
     let mut at = start;
-    for i in 0..count {
-        let against = against_edit(turns, before as usize + i as usize, at);
-        at = taken_end(bytes, at, against)?;
+    for k in before..before + count as usize {
+        at = taken_end(bytes, at, against_edit(turns, k, at))?;
     }
     Ok(at)
 }
 
 // The file that the bytes are, or why they are none; `lent` is how long the slices are that it is read for.
+#[tactic(auto, using(crate::proofs::Files::read_file_means))]
 pub fn read_file(bytes: &[u8], lent: Lengths) -> Result<File, Refusal>
     ensures scans { result ≡ read_file bytes.now lent }
     ensures means { FileRead bytes.now lent result }

@@ -5,5 +5,7 @@ pub mod edits;
 pub mod file;
 pub mod kinds;
 pub mod laws;
+pub mod listing;
 pub mod read;
+pub(crate) mod sinks;
 pub mod write;

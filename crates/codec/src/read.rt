@@ -1,23 +1,20 @@
 // Reading a turn: first where it ends, or why it is refused; then what it is.
+// Bytes and a place stay two parameters: a refusal names a place, and an edit keeps one, so that a pair would be taken apart at once.
 ghost use Rattle.std.specs.Prelude.{◌≡◌, ℕ, ◌+◌, ◌*◌, ◌<◌, ◌≤◌, length, slice_index};
 ghost use Rattle.codec.specs.Meaning.{two_at};
-ghost use Rattle.codec.specs.Refusals.{number, place, lent_place};
-ghost use Rattle.codec.specs.Scan.{end_of, stroke_end, filter_end, filter_at, edit_at, Headed};
+ghost use Rattle.codec.specs.Scan.{end_of, stroke_end, filter_end, flag_end, filter_at, edit_at, Headed};
 ghost use Rattle.codec.specs.Read.{taken_end, whole_turn, unless, read_turn, edit_and_end};
 ghost use Rattle.codec.specs.Laws.{TurnRead, EditGood};
 
-use crate::edits::{Edit, Filter, Lent, Refusal, Turn};
-use crate::kinds::is_built;
+use crate::edits::{Edit, Filter, NOTHING, Rect, Refusal, Turn};
+use crate::kinds::{FilterKind, Kind, REDO, UNDO, is_built};
 use pixel::pixels::read_pixel;
-
-// How many bytes of each kind stand before what its length depends on.
-static HEADS: [u8; 17] = [1, 1, 2, 1, 2, 3, 2, 1, 1, 9, 6, 1, 5, 8, 2, 1, 5];
 
 pub(crate) fn two(bytes: &[u8], at: usize) -> u16
     requires { at + 1 < length bytes.now }
     ensures { result ≡ two_at bytes.now at }
 {
-    bytes[at] as u16 + 256 * bytes[at + 1] as u16
+    u16::from_le_bytes([bytes[at], bytes[at + 1]])
 }
 
 fn stroke_end(bytes: &[u8], at: usize) -> Result<usize, Refusal>
@@ -38,24 +35,29 @@ fn filter_end(bytes: &[u8], at: usize) -> Result<usize, Refusal>
     requires { at + 2 ≤ length bytes.now }
     ensures { result ≡ filter_end bytes.now at }
 {
-    let filter = bytes[at + 1];
-    if filter > 3 {
+    let Ok(kind) = FilterKind::try_from(bytes[at + 1]) else {
         return Err(Refusal::NoFilter(at + 1));
+    };
+    let size = match kind {
+        FilterKind::Invert | FilterKind::Edges => 2,
+        FilterKind::BoxBlur => 3,
+        FilterKind::Curve => 258,
+    };
+    if bytes.len() - at < size {
+        return Err(Refusal::Ends(bytes.len()));
     }
-    if filter == 1 {
-        if bytes.len() - at < 258 {
-            return Err(Refusal::Ends(bytes.len()));
-        }
-        return Ok(at + 258);
+    if kind == FilterKind::BoxBlur && bytes[at + 2] > 64 {
+        return Err(Refusal::WideBlur(at + 2));
     }
-    if filter == 2 {
-        if bytes.len() - at < 3 {
-            return Err(Refusal::Ends(bytes.len()));
-        }
-        if bytes[at + 2] > 64 {
-            return Err(Refusal::WideBlur(at + 2));
-        }
-        return Ok(at + 3);
+    Ok(at + size)
+}
+
+fn flag_end(bytes: &[u8], at: usize) -> Result<usize, Refusal>
+    requires { at + 2 ≤ length bytes.now }
+    ensures { result ≡ flag_end bytes.now at }
+{
+    if bytes[at + 1] > 1 {
+        return Err(Refusal::NoFlag(at + 1));
     }
     Ok(at + 2)
 }
@@ -67,38 +69,30 @@ pub fn edit_end(bytes: &[u8], at: usize) -> Result<usize, Refusal>
     if at >= bytes.len() {
         return Err(Refusal::Ends(bytes.len()));
     }
-    let kind = bytes[at];
-    if kind > 16 {
+    let Ok(kind) = Kind::try_from(bytes[at]) else {
         return Err(Refusal::NoKind(at));
-    }
-    let head = HEADS[kind as usize] as usize;
+    };
+    let head = kind.head();
     if bytes.len() - at < head {
         return Err(Refusal::Ends(bytes.len()));
     }
-    if kind == 6 {
-        if bytes[at + 1] > 1 {
-            return Err(Refusal::NoFlag(at + 1));
-        }
-        return Ok(at + 2);
+    match kind {
+        Kind::SetVisible => flag_end(bytes, at),
+        Kind::Stroke => stroke_end(bytes, at),
+        Kind::ApplyFilter => filter_end(bytes, at),
+        _ => Ok(at + head),
     }
-    if kind == 13 {
-        return stroke_end(bytes, at);
-    }
-    if kind == 14 {
-        return filter_end(bytes, at);
-    }
-    Ok(at + head)
 }
 
 fn filter_in(bytes: &[u8], at: usize) -> Filter
     requires { (at + 1 < length bytes.now) × (slice_index bytes.now (at + 1) ≡ 2 → at + 3 ≤ length bytes.now) }
     ensures { result ≡ filter_at bytes.now at }
 {
-    match bytes[at + 1] {
-        0 => Filter::Invert,
-        1 => Filter::Curve { start: at + 2 },
-        2 => Filter::BoxBlur(bytes[at + 2]),
-        _ => Filter::Edges,
+    match FilterKind::try_from(bytes[at + 1]) {
+        Ok(FilterKind::Invert) => Filter::Invert,
+        Ok(FilterKind::Curve) => Filter::Curve { start: at + 2 },
+        Ok(FilterKind::BoxBlur) => Filter::BoxBlur(bytes[at + 2]),
+        Ok(FilterKind::Edges) | Err(_) => Filter::Edges,
     }
 }
 
@@ -107,38 +101,41 @@ fn edit_in(bytes: &[u8], at: usize) -> Edit
     requires { Headed bytes.now at }
     ensures { result ≡ edit_at bytes.now at }
 {
-    match bytes[at] {
-        0 => Edit::AddLayer,
-        1 => Edit::DropLayer,
-        2 => Edit::ChooseLayer(bytes[at + 1]),
-        3 => Edit::RaiseLayer,
-        4 => Edit::SetMode(bytes[at + 1]),
-        5 => Edit::SetOpacity(two(bytes, at + 1)),
-        6 => Edit::SetVisible(bytes[at + 1] == 1),
-        7 => Edit::MergeDown,
-        8 => Edit::SelectAll,
-        9 => Edit::SelectRect {
+    let Ok(kind) = Kind::try_from(bytes[at]) else {
+        unreachable!()
+    };
+    match kind {
+        Kind::AddLayer => Edit::AddLayer,
+        Kind::DropLayer => Edit::DropLayer,
+        Kind::ChooseLayer => Edit::ChooseLayer(bytes[at + 1]),
+        Kind::RaiseLayer => Edit::RaiseLayer,
+        Kind::SetMode => Edit::SetMode(bytes[at + 1]),
+        Kind::SetOpacity => Edit::SetOpacity(two(bytes, at + 1)),
+        Kind::SetVisible => Edit::SetVisible(bytes[at + 1] == 1),
+        Kind::MergeDown => Edit::MergeDown,
+        Kind::SelectAll => Edit::SelectAll,
+        Kind::SelectRect => Edit::SelectRect(Rect {
             x: two(bytes, at + 1),
             y: two(bytes, at + 3),
             width: two(bytes, at + 5),
             height: two(bytes, at + 7),
-        },
-        10 => Edit::SelectSimilar {
+        }),
+        Kind::SelectSimilar => Edit::SelectSimilar {
             near: bytes[at + 1],
             x: two(bytes, at + 2),
             y: two(bytes, at + 4),
         },
-        11 => Edit::SelectInverse,
-        12 => Edit::Fill(read_pixel(bytes, at + 1)),
-        13 => Edit::Stroke {
+        Kind::SelectInverse => Edit::SelectInverse,
+        Kind::Fill => Edit::Fill(read_pixel(bytes, at + 1)),
+        Kind::Stroke => Edit::Stroke {
             pixel: read_pixel(bytes, at + 1),
             radius: bytes[at + 5],
             start: at + 8,
             count: two(bytes, at + 6),
         },
-        14 => Edit::ApplyFilter(filter_in(bytes, at)),
-        15 => Edit::Copy,
-        _ => Edit::Paste {
+        Kind::ApplyFilter => Edit::ApplyFilter(filter_in(bytes, at)),
+        Kind::Copy => Edit::Copy,
+        Kind::Paste => Edit::Paste {
             x: two(bytes, at + 1),
             y: two(bytes, at + 3),
         },
@@ -146,13 +143,14 @@ fn edit_in(bytes: &[u8], at: usize) -> Edit
 }
 
 // The edit that starts at `at`, and where it ends; where none does, one that changes nothing, and `at`.
+// No `Option`, since it cannot fail: who reads edits that were checked before has no refusal to give.
 pub fn edit_at(bytes: &[u8], at: usize) -> (Edit, usize)
     ensures is { result ≡ edit_and_end bytes.now at }
     ensures good { EditGood bytes.now result.0 }
 {
     match edit_end(bytes, at) {
         Ok(end) => (edit_in(bytes, at), end),
-        Err(_) => (Edit::SetMode(255), at),
+        Err(_) => (NOTHING, at),
     }
 }
 
@@ -194,6 +192,8 @@ fn single(bytes: &[u8], turn: Turn, against: Option<Refusal>) -> Result<Turn, Re
 }
 
 // The turn that the bytes are, or why they are none; `against` is what stands against any turn at its first byte.
+// It is an `Option` and no `Result`, since it is looked at only after the kind.
+#[tactic(auto, using(crate::proofs::Means::read_turn_means))]
 pub fn read_turn(bytes: &[u8], against: Option<Refusal>) -> Result<Turn, Refusal>
     ensures scans { result ≡ read_turn bytes.now against }
     ensures means { TurnRead bytes.now against result }
@@ -202,37 +202,12 @@ pub fn read_turn(bytes: &[u8], against: Option<Refusal>) -> Result<Turn, Refusal
         return Err(Refusal::Ends(0));
     }
     let kind = bytes[0];
-    if kind == 17 {
+    if kind == UNDO {
         return single(bytes, Turn::Undo, against);
     }
-    if kind == 18 {
+    if kind == REDO {
         return single(bytes, Turn::Redo, against);
     }
     let end = taken_end(bytes, 0, against)?;
     whole(bytes, Turn::Does(edit_in(bytes, 0)), end)
-}
-
-fn lent_place(lent: Lent) -> usize
-    ensures { result ≡ lent_place lent }
-{
-    match lent {
-        Lent::Turns => 0,
-        Lent::Tiles => 1,
-        Lent::Work => 2,
-        Lent::File => 3,
-    }
-}
-
-// The number of a refusal, and its place: the byte that it is about, or which lent slice is too short.
-pub fn number_and_place(refusal: Refusal) -> (u8, usize)
-    ensures { (result.0 ≡ number refusal) × (result.1 ≡ place refusal) }
-{
-    match refusal {
-        Refusal::Ends(p) | Refusal::GoesOn(p) => (1, p),
-        Refusal::NotPage => (2, 0),
-        Refusal::NoKind(p) | Refusal::NoFilter(p) | Refusal::ManyPoints(p) => (3, p),
-        Refusal::WideBlur(p) | Refusal::NoFlag(p) | Refusal::NoSize(p) => (3, p),
-        Refusal::TooMany(p) => (4, p),
-        Refusal::Short(lent) => (5, lent_place(lent)),
-    }
 }

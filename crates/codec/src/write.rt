@@ -1,113 +1,87 @@
 // Writing an edit: its head from the fields, then what the bytes that it was read from have of its points or numbers.
-// Writing a file: its head, then its edits.
-ghost use Rattle.std.specs.Prelude.{◌≡◌, ℕ, ◌+◌, ◌-◌, ◌*◌, ◌/◌, ◌%◌, ◌<◌, ◌≤◌, [], ◌∷◌, ◌++◌, map, length, take, is_ok, if◌then◌else◌, Ok, OnOk};
+// Writing a file: its head, then its edits. All of it goes into lent bytes, or behind those of a `Vec`.
+ghost use Rattle.std.specs.Prelude.{◌≡◌, ℕ, ◌+◌, ◌-◌, ◌*◌, ◌<◌, ◌≤◌, [], ◌∷◌, ◌++◌, map, length, is_ok, if◌then◌else◌, Ok, OnOk};
 ghost use Rattle.codec.specs.Written.{written, two, four};
 ghost use Rattle.codec.specs.Meaning.{edit_of, Held};
-ghost use Rattle.codec.specs.Put.{put_at, head_of, tail_of, file_of, file_put, file_answer};
+ghost use Rattle.codec.specs.Put.{put_at, filter_head, head_of, tail_of, file_listed, file_put, file_answer};
 ghost use Rattle.codec.specs.Scan.{end_of, edit_at};
 ghost use Rattle.codec.specs.Files.{file_head, all_written};
 ghost use Rattle.codec.specs.Laws.{EditGood};
-ghost use Rattle.std.specs.List.{AllByRecursion};
+ghost use Rattle.std.specs.List.{All};
 
-use crate::edits::{Edit, Filter, Lent, Refusal};
+use crate::edits::{Edit, Filter, Lent, Rect, Refusal};
 use crate::file::File;
+use crate::kinds::Kind;
+use crate::listing::Listing;
+use crate::sinks::{Cursor, Sink};
 use pixel::Pixel;
 use std::alloc::AllocError;
 
-// Copies `piece` into `out` from `at` on, and says where it ends.
-fn put(out: &mut [u8], at: usize, piece: &[u8]) -> usize
-    requires { at + length piece.now ≤ length out.old }
-    ensures after { out.new ≡ put_at out.old at piece.now }
-    ensures end { result ≡ at + length piece.now }
+fn rect_bytes(kind: u8, rect: Rect) -> [u8; 9]
+    ensures { result ≡ kind ∷ (two rect.x ++ (two rect.y ++ (two rect.width ++ two rect.height))) }
 {
-    let end = at + piece.len();
-    out[at..end].copy_from_slice(piece);
-    end
-}
-
-fn low(x: u16) -> u8
-    ensures { result ≡ x % 256 }
-{
-    (x % 256) as u8
-}
-
-fn high(x: u16) -> u8
-    ensures { result ≡ x / 256 }
-{
-    (x / 256) as u8
-}
-
-fn rect_bytes(x: u16, y: u16, width: u16, height: u16) -> [u8; 9]
-    ensures { result ≡ 9 ∷ (two x ++ (two y ++ (two width ++ two height))) }
-{
+    let (x, y) = (rect.x.to_le_bytes(), rect.y.to_le_bytes());
+    let (width, height) = (rect.width.to_le_bytes(), rect.height.to_le_bytes());
     [
-        9,
-        low(x),
-        high(x),
-        low(y),
-        high(y),
-        low(width),
-        high(width),
-        low(height),
-        high(height),
+        kind, x[0], x[1], y[0], y[1], width[0], width[1], height[0], height[1],
     ]
 }
 
-fn stroke_bytes(p: Pixel, radius: u8, count: u16) -> [u8; 9]
-    ensures { result ≡ 13 ∷ (four p ++ (radius ∷ (two count ++ 0 ∷ []))) }
+fn stroke_bytes(kind: u8, p: Pixel, radius: u8, count: u16) -> [u8; 8]
+    ensures { result ≡ kind ∷ (four p ++ (radius ∷ two count)) }
 {
+    let count = count.to_le_bytes();
     [
-        13,
-        p.red,
-        p.green,
-        p.blue,
-        p.alpha,
-        radius,
-        low(count),
-        high(count),
-        0,
+        kind, p.red, p.green, p.blue, p.alpha, radius, count[0], count[1],
     ]
 }
 
-// The bytes of an edit up to its points or numbers, and how many they are.
-fn head(edit: Edit) -> ([u8; 9], usize)
-    ensures bytes { take result.1 result.0 ≡ head_of edit }
-    ensures few { result.1 ≤ 9 }
+// Puts what stands before the numbers of a curve.
+fn put_filter_head<S: Sink>(sink: &mut S, filter: Filter) -> Result<(), S::Error>
+    requires { S.fits sink.old (length (filter_head filter)) }
+    ensures { OnOk result (S.puts sink.old (filter_head filter) sink.new) }
 {
+    let kind = u8::from(Kind::ApplyFilter);
+    let of = u8::from(filter.kind());
+    match filter {
+        Filter::BoxBlur(r) => sink.put(&[kind, of, r]),
+        Filter::Invert | Filter::Curve { .. } | Filter::Edges => sink.put(&[kind, of]),
+    }
+}
+
+// Puts the bytes of an edit up to its points or numbers.
+fn put_head<S: Sink>(sink: &mut S, edit: Edit) -> Result<(), S::Error>
+    requires { S.fits sink.old (length (head_of edit)) }
+    ensures { OnOk result (S.puts sink.old (head_of edit) sink.new) }
+{
+    let kind = u8::from(edit.kind());
     match edit {
-        Edit::AddLayer => ([0, 0, 0, 0, 0, 0, 0, 0, 0], 1),
-        Edit::DropLayer => ([1, 0, 0, 0, 0, 0, 0, 0, 0], 1),
-        Edit::ChooseLayer(k) => ([2, k, 0, 0, 0, 0, 0, 0, 0], 2),
-        Edit::RaiseLayer => ([3, 0, 0, 0, 0, 0, 0, 0, 0], 1),
-        Edit::SetMode(m) => ([4, m, 0, 0, 0, 0, 0, 0, 0], 2),
-        Edit::SetOpacity(a) => ([5, low(a), high(a), 0, 0, 0, 0, 0, 0], 3),
-        Edit::SetVisible(b) => ([6, b as u8, 0, 0, 0, 0, 0, 0, 0], 2),
-        Edit::MergeDown => ([7, 0, 0, 0, 0, 0, 0, 0, 0], 1),
-        Edit::SelectAll => ([8, 0, 0, 0, 0, 0, 0, 0, 0], 1),
-        Edit::SelectRect {
-            x,
-            y,
-            width,
-            height,
-        } => (rect_bytes(x, y, width, height), 9),
-        Edit::SelectSimilar { near, x, y } => (
-            [10, near, low(x), high(x), low(y), high(y), 0, 0, 0],
-            6,
-        ),
-        Edit::SelectInverse => ([11, 0, 0, 0, 0, 0, 0, 0, 0], 1),
-        Edit::Fill(p) => ([12, p.red, p.green, p.blue, p.alpha, 0, 0, 0, 0], 5),
+        Edit::ChooseLayer(k) => sink.put(&[kind, k]),
+        Edit::SetMode(m) => sink.put(&[kind, m]),
+        Edit::SetOpacity(a) => {
+            let a = a.to_le_bytes();
+            sink.put(&[kind, a[0], a[1]])
+        }
+        Edit::SetVisible(b) => sink.put(&[kind, b as u8]),
+        Edit::SelectRect(rect) => sink.put(&rect_bytes(kind, rect)),
+        Edit::SelectSimilar { near, x, y } => {
+            let (x, y) = (x.to_le_bytes(), y.to_le_bytes());
+            sink.put(&[kind, near, x[0], x[1], y[0], y[1]])
+        }
+        Edit::Fill(p) => sink.put(&[kind, p.red, p.green, p.blue, p.alpha]),
         Edit::Stroke {
             pixel,
             radius,
-            start: _,
             count,
-        } => (stroke_bytes(pixel, radius, count), 8),
-        Edit::ApplyFilter(Filter::Invert) => ([14, 0, 0, 0, 0, 0, 0, 0, 0], 2),
-        Edit::ApplyFilter(Filter::Curve { start: _ }) => ([14, 1, 0, 0, 0, 0, 0, 0, 0], 2),
-        Edit::ApplyFilter(Filter::BoxBlur(r)) => ([14, 2, r, 0, 0, 0, 0, 0, 0], 3),
-        Edit::ApplyFilter(Filter::Edges) => ([14, 3, 0, 0, 0, 0, 0, 0, 0], 2),
-        Edit::Copy => ([15, 0, 0, 0, 0, 0, 0, 0, 0], 1),
-        Edit::Paste { x, y } => ([16, low(x), high(x), low(y), high(y), 0, 0, 0, 0], 5),
+            ..
+        } => sink.put(&stroke_bytes(kind, pixel, radius, count)),
+        Edit::ApplyFilter(filter) => put_filter_head(sink, filter),
+        Edit::Paste { x, y } => {
+            let (x, y) = (x.to_le_bytes(), y.to_le_bytes());
+            sink.put(&[kind, x[0], x[1], y[0], y[1]])
+        }
+        Edit::AddLayer | Edit::DropLayer | Edit::RaiseLayer | Edit::MergeDown => sink.put(&[kind]),
+        Edit::SelectAll | Edit::SelectInverse | Edit::Copy => sink.put(&[kind]),
     }
 }
 
@@ -128,6 +102,70 @@ fn tail<'a>(edit: Edit, source: &'a [u8]) -> &'a [u8]
     }
 }
 
+// Puts the edit, read from `source`.
+#[tactic(auto, using(crate::proofs::Writes::head_tail, crate::proofs::Writes::length_head))]
+fn put_edit<S: Sink>(sink: &mut S, edit: Edit, source: &[u8]) -> Result<(), S::Error>
+    requires held { Held source.now edit }
+    requires room { S.fits sink.old (length (written (edit_of source.now edit))) }
+    ensures { OnOk result (S.puts sink.old (written (edit_of source.now edit)) sink.new) }
+{
+    put_head(sink, edit)?;
+    sink.put(tail(edit, source))
+}
+
+// Puts the edits one after the other.
+#[tactic(auto, using(crate::proofs::Writes::rows_more))]
+fn put_edits<S: Sink>(sink: &mut S, edits: &[Edit], source: &[u8]) -> Result<(), S::Error>
+    requires held { All (Held source.now) edits.now }
+    requires room { S.fits sink.old (length (all_written (map (edit_of source.now) edits.now))) }
+    ensures { OnOk result (S.puts sink.old (all_written (map (edit_of source.now) edits.now)) sink.new) }
+{
+    for edit in edits {
+        put_edit(sink, *edit, source)?;
+    }
+    Ok(())
+}
+
+// What stands in a file before its edits.
+fn head_bytes(file: File) -> [u8; 16]
+    ensures { result ≡ file_head file.width file.height file.done file.undone }
+{
+    let (width, height) = (file.width.to_le_bytes(), file.height.to_le_bytes());
+    let (done, undone) = (file.done.to_le_bytes(), file.undone.to_le_bytes());
+    [
+        b'P', b'A', b'G', b'E', width[0], width[1], height[0], height[1], done[0], done[1],
+        done[2], done[3], undone[0], undone[1], undone[2], undone[3],
+    ]
+}
+
+// The file of what is listed.
+fn put_file<S: Sink>(sink: &mut S, listing: Listing) -> Result<(), S::Error>
+    requires { S.fits sink.old (length (file_listed listing)) }
+    ensures { OnOk result (S.puts sink.old (file_listed listing.entry) sink.new) }
+{
+    let file = File {
+        width: listing.width,
+        height: listing.height,
+        done: listing.done as u32,
+        undone: (listing.edits.len() - listing.done) as u32,
+    };
+    sink.put(&head_bytes(file))?;
+    put_edits(sink, listing.edits, listing.source)
+}
+
+// Copies `piece` into `out` from `at` on, and says where it ends.
+fn put(out: &mut [u8], at: usize, piece: &[u8]) -> usize
+    requires { at + length piece.now ≤ length out.old }
+    ensures after { out.new ≡ put_at out.old at piece.now }
+    ensures end { result ≡ at + length piece.now }
+{
+    let mut cursor = Cursor { out, at };
+    match cursor.put(piece) {
+        Ok(()) => cursor.at,
+        Err(never) => match never {},
+    }
+}
+
 // Writes the edit, read from `source`, into `out` from `at` on, and says where it ends.
 pub fn write_edit(out: &mut [u8], at: usize, edit: Edit, source: &[u8]) -> usize
     requires held { Held source.now edit }
@@ -135,12 +173,15 @@ pub fn write_edit(out: &mut [u8], at: usize, edit: Edit, source: &[u8]) -> usize
     ensures after { out.new ≡ put_at out.old at (written (edit_of source.now edit)) }
     ensures end { result ≡ at + length (written (edit_of source.now edit)) }
 {
-    let (bytes, size) = head(edit);
-    let then = put(out, at, &bytes[0..size]);
-    put(out, then, tail(edit, source))
+    let mut cursor = Cursor { out, at };
+    match put_edit(&mut cursor, edit, source) {
+        Ok(()) => cursor.at,
+        Err(never) => match never {},
+    }
 }
 
 // Copies the edit that stands in `source` from `at` to `end` into `out` from `to` on, and says where it ends there.
+#[tactic(auto, using(crate::proofs::Writes::within, crate::proofs::Writes::span))]
 pub fn copy_edit(out: &mut [u8], to: usize, source: &[u8], at: usize, end: usize) -> usize
     requires stands { end_of source.now at ≡ Ok end }
     requires fits { to + (end - at) ≤ length out.old }
@@ -148,33 +189,6 @@ pub fn copy_edit(out: &mut [u8], to: usize, source: &[u8], at: usize, end: usize
     ensures end { result ≡ to + length (written (edit_of source.now (edit_at source.now at))) }
 {
     put(out, to, &source[at..end])
-}
-
-// What stands in a file before its edits.
-fn head_bytes(file: File) -> [u8; 16]
-    ensures { result ≡ file_head file.width file.height file.done file.undone }
-{
-    let (d, e) = ((file.done % 65536) as u16, (file.done / 65536) as u16);
-    let (u, v) = ((file.undone % 65536) as u16, (file.undone / 65536) as u16);
-    let (w, h) = (file.width, file.height);
-    [
-        b'P',
-        b'A',
-        b'G',
-        b'E',
-        low(w),
-        high(w),
-        low(h),
-        high(h),
-        low(d),
-        high(d),
-        low(e),
-        high(e),
-        low(u),
-        high(u),
-        low(v),
-        high(v),
-    ]
 }
 
 // Writes what stands in a file before its edits.
@@ -186,11 +200,20 @@ pub fn write_head(out: &mut [u8], file: File) -> usize
     put(out, 0, &head_bytes(file))
 }
 
-// Adds what stands in a file before its edits, or nothing without memory for it.
-pub fn append_head(out: &mut Vec<u8>, file: File) -> Result<(), AllocError>
-    ensures { out.new.items ≡ (if is_ok result then out.old.items ++ file_head file.width file.height file.done file.undone else out.old.items) }
+// Writes the file of what is listed, and says how long it is.
+pub fn write_file(out: &mut [u8], listing: Listing) -> Result<usize, Refusal>
+    requires { All (EditGood listing.source.now) listing.edits.now }
+    ensures after { out.new ≡ file_put out.old (file_listed listing.entry) listing.entry.edits.now }
+    ensures answer { result ≡ file_answer out.old (file_listed listing.entry) listing.entry.edits.now }
 {
-    out.extend_from_slice(&head_bytes(file))
+    if out.len() < 16 + 8192 * listing.edits.len() {
+        return Err(Refusal::Short(Lent::File));
+    }
+    let mut cursor = Cursor { out, at: 0 };
+    match put_file(&mut cursor, listing) {
+        Ok(()) => Ok(cursor.at),
+        Err(never) => match never {},
+    }
 }
 
 // Adds the edit, read from `source`. Without memory for all of it, a part of it may have been added.
@@ -198,82 +221,19 @@ pub fn append_edit(out: &mut Vec<u8>, edit: Edit, source: &[u8]) -> Result<(), A
     requires { Held source.now edit }
     ensures { OnOk result (out.new.items ≡ out.old.items ++ written (edit_of source.now edit)) }
 {
-    let (bytes, size) = head(edit);
-    out.extend_from_slice(&bytes[0..size])?;
-    out.extend_from_slice(tail(edit, source))
+    put_edit(out, edit, source)
 }
 
-// Adds the edits one after the other. Without memory for all of them, a part may have been added.
-fn append_edits(out: &mut Vec<u8>, edits: &[Edit], source: &[u8]) -> Result<(), AllocError>
-    requires { AllByRecursion (Held source.now) edits.now }
-    ensures { OnOk result (out.new.items ≡ out.old.items ++ all_written (map (edit_of source.now) edits.now)) }
+// Adds what stands in a file before its edits, or nothing without memory for it.
+pub fn append_head(out: &mut Vec<u8>, file: File) -> Result<(), AllocError>
+    ensures { out.new.items ≡ (if is_ok result then out.old.items ++ file_head file.width file.height file.done file.undone else out.old.items) }
 {
-    for edit in edits {
-        append_edit(out, *edit, source)?;
-    }
-    Ok(())
+    out.extend_from_slice(&head_bytes(file))
 }
 
-// Adds the file of some edits, the first `done` of which are done. Without memory for all of it, a part may have been added.
-pub fn append_file(
-    out: &mut Vec<u8>,
-    width: u16,
-    height: u16,
-    edits: &[Edit],
-    done: usize,
-    source: &[u8],
-) -> Result<(), AllocError>
-    requires held { AllByRecursion (Held source.now) edits.now }
-    requires few { (length edits.now ≤ 65536) × (done ≤ length edits.now) }
-    ensures { OnOk result (out.new.items ≡ out.old.items ++ file_of source.now width height edits.now done) }
+// Adds the file of what is listed. Without memory for all of it, a part may have been added.
+pub fn append_file(out: &mut Vec<u8>, listing: Listing) -> Result<(), AllocError>
+    ensures { OnOk result (out.new.items ≡ out.old.items ++ file_listed listing.entry) }
 {
-    let file = File {
-        width,
-        height,
-        done: done as u32,
-        undone: (edits.len() - done) as u32,
-    };
-    append_head(out, file)?;
-    append_edits(out, edits, source)
-}
-
-// Writes the edits one after the other from `start` on, and says where they end.
-fn write_edits(out: &mut [u8], start: usize, edits: &[Edit], source: &[u8]) -> usize
-    requires good { AllByRecursion (EditGood source.now) edits.now }
-    requires room { start + 8192 * length edits.now ≤ length out.old }
-    ensures after { out.new ≡ put_at out.old start (all_written (map (edit_of source.now) edits.now)) }
-    ensures end { result ≡ start + length (all_written (map (edit_of source.now) edits.now)) }
-{
-    let mut at = start;
-    for edit in edits {
-        at = write_edit(out, at, *edit, source);
-    }
-    at
-}
-
-// Writes the file of some edits, the first `done` of which are done, and says how long it is.
-pub fn write_file(
-    out: &mut [u8],
-    width: u16,
-    height: u16,
-    edits: &[Edit],
-    done: usize,
-    source: &[u8],
-) -> Result<usize, Refusal>
-    requires good { AllByRecursion (EditGood source.now) edits.now }
-    requires few { (length edits.now ≤ 65536) × (done ≤ length edits.now) }
-    ensures after { out.new ≡ file_put out.old (file_of source.now width height edits.now done) edits.now }
-    ensures answer { result ≡ file_answer out.old (file_of source.now width height edits.now done) edits.now }
-{
-    if out.len() < 16 + 8192 * edits.len() {
-        return Err(Refusal::Short(Lent::File));
-    }
-    let file = File {
-        width,
-        height,
-        done: done as u32,
-        undone: (edits.len() - done) as u32,
-    };
-    let start = write_head(out, file);
-    Ok(write_edits(out, start, edits, source))
+    put_file(out, listing)
 }

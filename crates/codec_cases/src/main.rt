@@ -10,8 +10,8 @@
 use anyhow::anyhow;
 use codec::edits::{Lent, Refusal};
 use codec::file::{Lengths, read_file};
-use codec::read::{edit_end, number_and_place, read_turn};
-use std::alloc::{AllocError, Global};
+use codec::read::{edit_end, read_turn};
+use std::alloc::Global;
 
 fn push_bytes(bytes: &mut Vec<u8>, word: &str) -> anyhow::Result<()> {
     let (digits, times) = match word.split_once('*') {
@@ -52,16 +52,11 @@ fn against(name: &str) -> Option<Refusal> {
     }
 }
 
-fn refused(heap: Global, why: Refusal) -> Result<String, AllocError> {
-    let (number, place) = number_and_place(why);
-    format!(in heap; "refused {number} at {place}")
-}
-
 fn turn(heap: Global, line: &str) -> anyhow::Result<String> {
     let bytes = bytes_of(heap, line, 2)?;
     match read_turn(&bytes, against(word(line, 1))) {
         Ok(_) => Ok(String::from_str(heap, "taken")?),
-        Err(why) => Ok(refused(heap, why)?),
+        Err(why) => Ok(why.to_string(heap)?),
     }
 }
 
@@ -70,7 +65,7 @@ fn edit(heap: Global, line: &str) -> anyhow::Result<String> {
     let bytes = bytes_of(heap, line, 2)?;
     match edit_end(&bytes, at) {
         Ok(end) => Ok(format!(in heap; "ends at {end}")?),
-        Err(why) => Ok(refused(heap, why)?),
+        Err(why) => Ok(why.to_string(heap)?),
     }
 }
 
@@ -87,7 +82,7 @@ fn file(heap: Global, line: &str) -> anyhow::Result<String> {
             let (done, undone) = (file.done, file.undone);
             Ok(format!(in heap; "{width} by {height}, {done} done, {undone} undone")?)
         }
-        Err(why) => Ok(refused(heap, why)?),
+        Err(why) => Ok(why.to_string(heap)?),
     }
 }
 

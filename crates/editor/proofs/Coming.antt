@@ -1,10 +1,11 @@
 -- What always holds of a desk that came about, and so the main theorem. Assumes nothing.
 use Rattle.std.proofs.Common.{◌≡◌, ℕ, zero, suc, ◌+◌, ◌*◌, ◌<◌, ◌≤◌, Bool, true, cond, ◌&&◌, eqb, ltb, leb, List, [], ◌∷◌, ◌++◌, length, get_or, take, drop, Some, None, Ok, Err, Option, Result, sym, refl, ap, ◌∙◌, subst, ap₂, arith, length-append}
-use Rattle.std.specs.List.{AllByRecursion}
-use Rattle.std.proofs.ByRecursion.{All-weaker}
+use Rattle.std.specs.List.{All}
+use Rattle.std.proofs.lemmas.List.Elements.{All-nil, All-cons, All-tail}
 use Rattle.std.proofs.lemmas.List.{take_at}
 use Rattle.std.proofs.lemmas.Result.{MatchResult-at_ok}
 use Rattle.std.proofs.lemmas.Bool.{lt-ltb, le-leb, cond_both}
+use Rattle.pixel.specs.declared.sizes.Size.{Size}
 use Rattle.pixel.specs.declared.Pixel.{Pixel}
 use Rattle.page.specs.Edits.{Edit, seen}
 use Rattle.page.specs.Fits.{Fits}
@@ -34,25 +35,25 @@ abbrev pub Good : Edit → Type 0
 Good e = Fits e × Built e
 
 abbrev pub HistoryGood : History → Type 0
-HistoryGood b = AllByRecursion Good b.done × AllByRecursion Good b.undone
+HistoryGood b = All Good b.done × All Good b.undone
 
-undone_good : (es : List Edit) (b : History) → AllByRecursion Good es → HistoryGood b → HistoryGood (model.undone_once es b)
+undone_good : (es : List Edit) (b : History) → All Good es → HistoryGood b → HistoryGood (model.undone_once es b)
 undone_good [] b a g = g
-undone_good (e ∷ es) b a g = (a.1, (a.0, g.1))
+undone_good (e ∷ es) b a g = (All-tail Good e es a, All-cons Good e b.undone (a 0 e (omega arith)) g.1)
 
-redone_good : (es : List Edit) (b : History) → AllByRecursion Good es → HistoryGood b → HistoryGood (model.redone_once es b)
+redone_good : (es : List Edit) (b : History) → All Good es → HistoryGood b → HistoryGood (model.redone_once es b)
 redone_good [] b a g = g
-redone_good (e ∷ es) b a g = ((a.0, g.0), a.1)
+redone_good (e ∷ es) b a g = (All-cons Good e b.done (a 0 e (omega arith)) g.0, All-tail Good e es a)
 
 pub turned_good : (b : History) (t : Turn) → TurnFits t → TurnBuilt t → HistoryGood b → HistoryGood (turned b t)
-turned_good b (does e) f k g = (((f, k), g.0), tt)
+turned_good b (does e) f k g = (All-cons Good e b.done (f, k) g.0, All-nil Good)
 turned_good b undo f k g = undone_good b.done b g.0 g
 turned_good b redo f k g = redone_good b.undone b g.1 g
 
 -- WHAT ALWAYS HOLDS: the size, sound bytes, the history that the turns come to, of edits that fit; and no more turns are counted than there were
 pub record Stands (w h : ℕ) (ts : List Turn) (d : Desk) : Type 0 where
-  pub wide_is : d.editor.canvas.wide ≡ w
-  pub high_is : d.editor.canvas.high ≡ h
+  pub wide_is : d.editor.timeline.canvas.size.wide ≡ w
+  pub high_is : d.editor.timeline.canvas.size.high ≡ h
   pub sound : Sound d.editor d.turns d.tiles
   pub history_is : history d.editor d.turns ≡ model.turns empty ts
   pub good : HistoryGood (model.turns empty ts)
@@ -65,7 +66,7 @@ begun_of (Some why) w h turns tiles work turns' tiles' work' s b = absurd b
 
 stands_begun : (w h : ℕ) (d : Desk) → Begun w h d.editor d.turns d.tiles → Stands w h [] d
 stands_begun w h d b =
-    record { wide_is = b.wide_is; high_is = b.high_is; sound = b.sound; history_is = b.no_history; good = (tt, tt); few = omega (arith, b.none_taken) }
+    record { wide_is = b.wide_is; high_is = b.high_is; sound = b.sound; history_is = b.no_history; good = (All-nil Good, All-nil Good); few = omega (arith, b.none_taken) }
 
 -- one turn further
 no_ok : {A B : Type 0} (x : A) (y : B) → ◌≡◌ {A = Result A B} (Ok x) (Err y) → ⊥
@@ -110,8 +111,8 @@ stands_turned : (w h : ℕ) (ts : List Turn) (t : Turn) (d d' : Desk) → TurnFi
 stands_turned w h ts t d d' f b so did =
     let next : model.turns empty (ts ++ t ∷ []) ≡ turned (model.turns empty ts) t = turns_append empty ts (t ∷ []) in
     record {
-      wide_is = did.same_wide ∙ so.wide_is;
-      high_is = did.same_high ∙ so.high_is;
+      wide_is = ap (λ (z : Size). z.wide) did.same_size ∙ so.wide_is;
+      high_is = ap (λ (z : Size). z.high) did.same_size ∙ so.high_is;
       sound = did.sound_next so.sound;
       history_is = did.history_next ∙ (ap (λ a. turned a t) so.history_is ∙ sym next);
       good = subst HistoryGood (sym next) (turned_good (model.turns empty ts) t f b so.good);
@@ -131,23 +132,23 @@ pub length-in_order : (xs ys : List Edit) → length (in_order xs ys) ≡ length
 length-in_order [] ys = omega arith
 length-in_order (x ∷ xs) ys = omega (arith, length-in_order xs (x ∷ ys))
 
-pub all_in_order : (P : Edit → Type 0) (xs ys : List Edit) → AllByRecursion P xs → AllByRecursion P ys → AllByRecursion P (in_order xs ys)
+pub all_in_order : (P : Edit → Type 0) (xs ys : List Edit) → All P xs → All P ys → All P (in_order xs ys)
 all_in_order P [] ys a b = b
-all_in_order P (x ∷ xs) ys a b = all_in_order P xs (x ∷ ys) a.1 (a.0, b)
+all_in_order P (x ∷ xs) ys a b = all_in_order P xs (x ∷ ys) (All-tail P x xs a) (All-cons P x ys (a 0 x (omega arith)) b)
 
-all_fit : (es : List Edit) → AllByRecursion Good es → AllByRecursion Fits es
-all_fit es a = All-weaker Good Fits (λ e g. g.0) es a
+all_fit : (es : List Edit) → All Good es → All Fits es
+all_fit es a = λ k d l. (a k d l).0
 
 -- the file of an editor whose edits fit is one
-pub file_is : (w h : ℕ) (s : Editor) (turns : List ℕ) → s.canvas.wide ≡ w → s.canvas.high ≡ h → HistoryGood (history s turns) →
+pub file_is : (w h : ℕ) (s : Editor) (turns : List ℕ) → s.timeline.canvas.size.wide ≡ w → s.timeline.canvas.size.high ≡ h → HistoryGood (history s turns) →
     IsFile (file_of s turns) w h (in_order (history s turns).done []) (history s turns).undone
 file_is w h s turns ws hs g =
-    let size = s.canvas.sized in let count = s.counted in
+    let size = s.timeline.canvas.size.sized in let count = s.counted in
     record {
       wide = (omega (arith, size), omega (arith, size));
       high = (omega (arith, size), omega (arith, size));
-      fit = (all_in_order Fits (history s turns).done [] (all_fit _ g.0) tt, all_fit _ g.1);
-      few = (omega (arith, count, length-in_order (history s turns).done [], length-latest turns s.done), omega (arith, count, length-edits turns s.done s.undone));
+      fit = (all_in_order Fits (history s turns).done [] (all_fit _ g.0) (All-nil Fits), all_fit _ g.1);
+      few = (omega (arith, count, length-in_order (history s turns).done [], length-latest turns s.timeline.done), omega (arith, count, length-edits turns s.timeline.done s.timeline.undone));
       is = ap₂ (λ x y. file_written x y (in_order (history s turns).done []) (history s turns).undone) ws hs;
     }
 
@@ -172,10 +173,10 @@ stands_reopened w h ts d d' bs m so is e =
     let same = file_read_is bs lent w h ds b.undone f file x.1 in
     let done_same : (history d'.editor d'.turns).done ≡ b.done = o.done_is ∙ (ap (λ es. in_order es []) same.2 ∙ done_in_order b.done) in
     let undone_same : (history d'.editor d'.turns).undone ≡ b.undone = o.undone_is ∙ same.3 in
-    let done_many : f.done ≡ d.editor.done
-    = sym (length_from bs f.done 16) ∙ (ap length same.2 ∙ (length-in_order b.done [] ∙ omega (arith, length-latest d.turns d.editor.done))) in
-    let undone_many : f.undone ≡ d.editor.undone
-    = sym (length_from bs f.undone (after_edits bs 16 f.done)) ∙ (ap length same.3 ∙ length-edits d.turns d.editor.done d.editor.undone) in
+    let done_many : f.done ≡ d.editor.timeline.done
+    = sym (length_from bs f.done 16) ∙ (ap length same.2 ∙ (length-in_order b.done [] ∙ omega (arith, length-latest d.turns d.editor.timeline.done))) in
+    let undone_many : f.undone ≡ d.editor.timeline.undone
+    = sym (length_from bs f.undone (after_edits bs 16 f.done)) ∙ (ap length same.3 ∙ length-edits d.turns d.editor.timeline.done d.editor.timeline.undone) in
     record {
       wide_is = o.wide_is ∙ same.0;
       high_is = o.high_is ∙ same.1;
@@ -195,10 +196,10 @@ comes_stand w h _ _ (reopens ts d d' file file' n m c u e) =
 all_pass : (a b c : Bool) (o : Option Pixel) → a ≡ true → b ≡ true → c ≡ true → cond ((a && b) && c) o None ≡ o
 all_pass a b c o ha hb hc = rw (ha, hb, hc) refl
 
-pub sound_shown : (w h i j : ℕ) (s : Editor) (turns tiles : List ℕ) → s.canvas.wide ≡ w → s.canvas.high ≡ h → Sound s turns tiles → i < w → j < h →
-    shown_at s.canvas tiles i j ≡ Some (seen (made_by w h (history s turns).done) i j)
+pub sound_shown : (w h i j : ℕ) (s : Editor) (turns tiles : List ℕ) → s.timeline.canvas.size.wide ≡ w → s.timeline.canvas.size.high ≡ h → Sound s turns tiles → i < w → j < h →
+    shown_at s.timeline.canvas tiles i j ≡ Some (seen (made_by w h (history s turns).done) i j)
 sound_shown w h i j s turns tiles ws hs so iw jh =
-    let wide = s.canvas.wide in let high = s.canvas.high in
+    let wide = s.timeline.canvas.size.wide in let high = s.timeline.canvas.size.high in
     let left : i < wide = omega arith in let top : j < high = omega arith in
     all_pass (ltb i wide) (ltb j high) (leb (544 * (wide * high)) (length tiles)) _ (lt-ltb i wide left) (lt-ltb j high top) (le-leb (544 * (wide * high)) (length tiles) so.room)
     ∙ (ap Some (so.holds.shown i j left top) ∙ ap₂ (λ x y. Some (seen (made_by x y (history s turns).done) i j)) ws hs)

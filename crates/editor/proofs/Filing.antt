@@ -1,11 +1,11 @@
 -- The editor's file: what is written is its bytes, and what is read is its history. Assumes nothing.
-use Rattle.std.proofs.Common.{◌≡◌, ℕ, ◌+◌, ◌*◌, ◌≤◌, Bool, true, cond, leb, List, [], ◌++◌, length, take, drop, None, Ok, Option, Result, sym, refl, ap, ◌∙◌, subst, ap₂, arith, length-append}
-use Rattle.std.proofs.ByRecursion as elements
+use Rattle.std.proofs.Common.{◌≡◌, ℕ, ◌+◌, ◌*◌, ◌≤◌, List, [], ◌++◌, length, take, drop, None, Ok, Option, Result, sym, refl, ap, ◌∙◌, subst, ap₂, arith, length-append}
+use Rattle.std.proofs.lemmas.List.Elements as elements
 use Rattle.std.proofs.lemmas.List.{take_at, drop_at}
-use Rattle.std.proofs.lemmas.Bool.{le-leb}
 use Rattle.page.specs.Edits.{Edit}
 use Rattle.page.specs.Fits.{Fits}
 use Rattle.page.specs.History.{in_order}
+use Rattle.std.proofs.lemmas.Bool.Decides.{nat_tests}
 use Rattle.codec.specs.declared.edits.Refusal.{Refusal}
 use Rattle.codec.specs.declared.file.File.{File}
 use Rattle.codec.specs.declared.file.Lengths.{Lengths}
@@ -19,34 +19,34 @@ use Rattle.editor.specs.declared.state.Editor.{Editor}
 use Rattle.editor.specs.Promises.{write_refusal, file_of, WriteEnds, Opened, ReadEnds}
 
 -- two tests that pass
-both_pass : (a b : Bool) (f g : Option Refusal) → a ≡ true → b ≡ true → cond a (cond b None f) g ≡ None
-both_pass a b f g p q = cc
+pub write_free : (s : Editor) (turns file : ℕ) → 8192 * (s.timeline.done + s.timeline.undone) ≤ turns → 16 + 8192 * (s.timeline.done + s.timeline.undone) ≤ file → write_refusal s turns file ≡ None
+write_free s turns file lt lf = grind (arith, nat_tests)
 
 -- the head and the edits of the slots are the file
-pieces : (s : Editor) (turns : List ℕ) → file_head s.canvas.wide s.canvas.high s.done s.undone ++ all_written (edits_in turns 0 (s.done + s.undone)) ≡ file_of s turns
+pieces : (s : Editor) (turns : List ℕ) → file_head s.timeline.canvas.size.wide s.timeline.canvas.size.high s.timeline.done s.timeline.undone ++ all_written (edits_in turns 0 (s.timeline.done + s.timeline.undone)) ≡ file_of s turns
 pieces s turns =
-    let w = s.canvas.wide in
-    let h = s.canvas.high in
-    let d = edits_in turns 0 s.done in
-    let u = edits_in turns s.done s.undone in
-    let here : 0 + s.done ≡ s.done = omega arith in
-    let rows : edits_in turns 0 (s.done + s.undone) ≡ d ++ u = edits_join turns 0 s.done s.undone ∙ ap (λ k. d ++ edits_in turns k s.undone) here in
-    let row = latest_row turns s.done in
-    let d_long : s.done ≡ length (in_order (latest_in turns s.done) []) = sym (edits_long turns 0 s.done) ∙ sym (ap length row) in
-    let u_long : s.undone ≡ length u = sym (edits_long turns s.done s.undone) in
-    ap₂ (λ m n. file_head w h m n ++ all_written (edits_in turns 0 (s.done + s.undone))) d_long u_long
-    ∙ ap (λ es. file_head w h (length (in_order (latest_in turns s.done) [])) (length u) ++ es)
+    let w = s.timeline.canvas.size.wide in
+    let h = s.timeline.canvas.size.high in
+    let d = edits_in turns 0 s.timeline.done in
+    let u = edits_in turns s.timeline.done s.timeline.undone in
+    let here : 0 + s.timeline.done ≡ s.timeline.done = omega arith in
+    let rows : edits_in turns 0 (s.timeline.done + s.timeline.undone) ≡ d ++ u = edits_join turns 0 s.timeline.done s.timeline.undone ∙ ap (λ k. d ++ edits_in turns k s.timeline.undone) here in
+    let row = latest_row turns s.timeline.done in
+    let d_long : s.timeline.done ≡ length (in_order (latest_in turns s.timeline.done) []) = sym (edits_long turns 0 s.timeline.done) ∙ sym (ap length row) in
+    let u_long : s.timeline.undone ≡ length u = sym (edits_long turns s.timeline.done s.timeline.undone) in
+    ap₂ (λ m n. file_head w h m n ++ all_written (edits_in turns 0 (s.timeline.done + s.timeline.undone))) d_long u_long
+    ∙ ap (λ es. file_head w h (length (in_order (latest_in turns s.timeline.done) [])) (length u) ++ es)
     (ap (λ es. all_written es) rows ∙ all_append d u ∙ ap (λ es. all_written es ++ all_written u) (sym row))
 
-pub written_ends : (s : Editor) (turns file mid last : List ℕ) (start n : ℕ) → 8192 * (s.done + s.undone) ≤ length turns → 16 + 8192 * (s.done + s.undone) ≤ length file →
-    mid ≡ put_at file 0 (file_head s.canvas.wide s.canvas.high s.done s.undone) → start ≡ 16 →
-    last ≡ put_at mid start (all_written (edits_in turns 0 (s.done + s.undone))) → n ≡ start + length (all_written (edits_in turns 0 (s.done + s.undone))) →
+pub written_ends : (s : Editor) (turns file mid last : List ℕ) (start n : ℕ) → 8192 * (s.timeline.done + s.timeline.undone) ≤ length turns → 16 + 8192 * (s.timeline.done + s.timeline.undone) ≤ length file →
+    mid ≡ put_at file 0 (file_head s.timeline.canvas.size.wide s.timeline.canvas.size.high s.timeline.done s.timeline.undone) → start ≡ 16 →
+    last ≡ put_at mid start (all_written (edits_in turns 0 (s.timeline.done + s.timeline.undone))) → n ≡ start + length (all_written (edits_in turns 0 (s.timeline.done + s.timeline.undone))) →
     WriteEnds (write_refusal s (length turns) (length file)) s turns file last (Ok n)
 written_ends s turns file mid last start n lt lf mid_is start_is last-is n-is =
-    let head = file_head s.canvas.wide s.canvas.high s.done s.undone in
-    let all = all_written (edits_in turns 0 (s.done + s.undone)) in
+    let head = file_head s.timeline.canvas.size.wide s.timeline.canvas.size.high s.timeline.done s.timeline.undone in
+    let all = all_written (edits_in turns 0 (s.timeline.done + s.timeline.undone)) in
     let none : write_refusal s (length turns) (length file) ≡ None
-    = both_pass (leb (8192 * (s.done + s.undone)) (length turns)) (leb (16 + 8192 * (s.done + s.undone)) (length file)) _ _ (le-leb _ _ lt) (le-leb _ _ lf) in
+    = write_free s (length turns) (length file) lt lf in
     let size : n ≡ length (head ++ all) = n-is ∙ ap (λ k. k + length all) start_is ∙ sym (length-append head all) in
     let put : last ≡ put_at file 0 (head ++ all)
     = last-is ∙ ap₂ (λ m k. put_at m k all) mid_is start_is ∙ put_put file 0 head all (omega arith) in
@@ -86,8 +86,8 @@ module _ (turns : List ℕ) (d u : ℕ) (ds us : List Edit) (long : length ds �
   undone_row = sym (drop_at (edits_in turns 0 d) (edits_in turns d u) d (edits_long turns 0 d)) ∙ ap (drop d) joined ∙ drop_at ds us d long
 
 -- an editor of the file's size and counts, over those slots, with tiles that hold its page
-pub opened : (bs : List ℕ) (lent : Lengths) (f : File) (s : Editor) (turns tiles : List ℕ) → FileTaken bs lent f → s.canvas.wide ≡ f.width → s.canvas.high ≡ f.height → s.taken ≡ f.done + f.undone →
-    s.done ≡ f.done → s.undone ≡ f.undone → edits_in turns 0 (f.done + f.undone) ≡ done_of bs f ++ undone_of bs f → length tiles ≡ lent.tiles → Holds s.canvas (latest_in turns s.done) tiles → Opened bs f s turns tiles
+pub opened : (bs : List ℕ) (lent : Lengths) (f : File) (s : Editor) (turns tiles : List ℕ) → FileTaken bs lent f → s.timeline.canvas.size.wide ≡ f.width → s.timeline.canvas.size.high ≡ f.height → s.taken ≡ f.done + f.undone →
+    s.timeline.done ≡ f.done → s.timeline.undone ≡ f.undone → edits_in turns 0 (f.done + f.undone) ≡ done_of bs f ++ undone_of bs f → length tiles ≡ lent.tiles → Holds s.timeline.canvas (latest_in turns s.timeline.done) tiles → Opened bs f s turns tiles
 opened bs lent f s turns tiles t w h n d u row long holds =
     record {
       wide_is = w;

@@ -1,24 +1,23 @@
 -- A script played line by line is a row of turns. Assumes nothing.
 use Rattle.std.proofs.Common.{◌≡◌, ℕ, ◌+◌, ◌*◌, Bool, List, [], ◌∷◌, ◌++◌, length, Ok, Err, Option, Result, sym, refl, ap, ◌∙◌, subst, ap₂, subst₂, append_assoc, append-nil, arith}
+use Rattle.pixel.specs.declared.sizes.Size.{Size}
 use Rattle.page.specs.History.{Turn}
 use Rattle.codec.specs.declared.edits.Turn.{Turn as Read}
 use Rattle.codec.specs.declared.edits.Refusal.{Refusal}
 use Rattle.codec.specs.Meaning.{Bytes, turn_of}
 use Rattle.codec.specs.Read.{read_turn}
 use Rattle.codec.proofs.Means.{read_turn_means}
-use Rattle.words.specs.declared.lines.Line.{Line}
-use Rattle.words.specs.declared.lines.Line.TheVariants.{Blank, Turn as Says, Unknown}
-use Rattle.words.specs.declared.taking.Outcome.{Outcome}
-use Rattle.words.specs.declared.taking.Outcome.TheVariants.{Taken, Refused, NoMemory}
-use Rattle.words.specs.Lines.{understood}
+use Rattle.words.specs.declared.taking.Fault.{Fault}
+use Rattle.words.specs.declared.taking.Fault.TheVariants.{Refused, NoMemory}
+use Rattle.words.specs.Lines.{Says, blank, turn, unknown, understood}
 use Rattle.words.specs.Script.{lines_of, LinePlays, Plays}
 use Rattle.editor.specs.declared.state.Editor.{Editor}
 use Rattle.editor.specs.declared.desk.Desk.{Desk}
-use Rattle.editor.specs.Promises.{pixels, TurnEnds}
+use Rattle.editor.specs.Promises.{against_next, pixels, TurnEnds}
 use Rattle.editor.specs.Runs as runs
 use Rattle.editor.specs.Runs.{Takes, Comes, takes}
 use Rattle.editor.specs.Desks.{desk_of, DeskSteps}
-use Rattle.editor.specs.Row.{with_line, said_by, against_next, by_answer, taken_of, row, RunsRow}
+use Rattle.editor.specs.Row.{with_line, said_by, by_answer, taken_of, row, RunsRow}
 use Rattle.editor.proofs.Coming.{shows_the_page}
 
 -- an answer is not a refusal
@@ -72,7 +71,7 @@ module _ (w h px lt ll lw : ℕ) where
       = on (ts ++ u ∷ []) (n + 1) (record {
         comes = next;
         counts = s.one_taken ∙ ap (λ k. k + 1) way.counts;
-        limits = record { px_is = ap₂ ◌*◌ s.same_wide s.same_high ∙ l.px_is; turns_are = s.turns_long ∙ l.turns_are; tiles_are = s.tiles_long ∙ l.tiles_are; work_is = s.work_long ∙ l.work_is };
+        limits = record { px_is = ap (λ (z : Size). z.wide * z.high) s.same_size ∙ l.px_is; turns_are = s.turns_long ∙ l.turns_are; tiles_are = s.tiles_long ∙ l.tiles_are; work_is = s.work_long ∙ l.work_is };
       }) in
       subst (λ (us : List Turn). Comes w h us q) (append_assoc ts (u ∷ []) (taken_of g (n + 1) rest)) far
   taken_on bs rest d m q ts n (Err f) bytes tk on way is e = absurd (ok_err f e.0)
@@ -84,24 +83,24 @@ module _ (w h px lt ll lw : ℕ) where
   refused_on bs rest p m q ts n why (Ok t) on way e = absurd (ok_err why (sym e.0))
   refused_on bs rest p m q ts n why (Err f) on way e = on ts n (subst (Way ts n) (same_desk _ _ _ _ _ _ _ _ e.1 e.2 e.3 e.4) way)
 
-  turn_on : (bs : List ℕ) (rest : List (List ℕ)) (p m : Desk) (q : runs.Desk) (ts : List Turn) (n : ℕ) (o : Outcome) → DeskSteps p bs o m → Leads rest q (desk_of m) → Way ts n (desk_of p) → Comes w h (ts ++ taken_of g n (bs ∷ rest)) q
-  turn_on bs rest p m q ts n Taken s on way =
+  turn_on : (bs : List ℕ) (rest : List (List ℕ)) (p m : Desk) (q : runs.Desk) (ts : List Turn) (n : ℕ) (o : Result (Unit {0}) Fault) → DeskSteps p bs o m → Leads rest q (desk_of m) → Way ts n (desk_of p) → Comes w h (ts ++ taken_of g n (bs ∷ rest)) q
+  turn_on bs rest p m q ts n (Ok u) s on way =
       taken_on bs rest (desk_of p) (desk_of m) q ts n (read_turn bs (g n)) s.0 s.1 on way refl
       (subst (λ (a : Option Refusal). TurnEnds bs (read_turn bs a) p.editor (desk_of p).turns (desk_of p).tiles (desk_of p).work m.editor (desk_of m).turns (desk_of m).tiles (desk_of m).work (Ok tt)) (against_is n ts (desk_of p) way) s.1)
-  turn_on bs rest p m q ts n (Refused why) s on way =
+  turn_on bs rest p m q ts n (Err (Refused why)) s on way =
       refused_on bs rest p m q ts n why (read_turn bs (g n)) on way
       (subst (λ (a : Option Refusal). TurnEnds bs (read_turn bs a) p.editor (desk_of p).turns (desk_of p).tiles (desk_of p).work m.editor (desk_of m).turns (desk_of m).tiles (desk_of m).work (Err why)) (against_is n ts (desk_of p) way) s.1)
-  turn_on bs rest p m q ts n NoMemory s on way = absurd s
+  turn_on bs rest p m q ts n (Err NoMemory) s on way = absurd s
 
-  line_on : (x : Line) (bs : List ℕ) (rest : List (List ℕ)) (k : ℕ) (p m : Desk) (q : runs.Desk) (old said : List ℕ) (a : Bool) → LinePlays DeskSteps k x bs p m old said a → Leads rest q (desk_of m) → Leads (with_line x bs rest) q (desk_of p)
-  line_on Blank bs rest k p m q old said a l on = subst (λ (d : Desk). Leads rest q (desk_of d)) l.0 on
-  line_on Unknown bs rest k p m q old said a l on = subst (λ (d : Desk). Leads rest q (desk_of d)) l.0 on
-  line_on Says bs rest k p m q old said a l on = λ ts n way. turn_on bs rest p m q ts n l.outcome l.step on way
+  line_on : (x : Says) (rest : List (List ℕ)) (k : ℕ) (p m : Desk) (q : runs.Desk) (old said : List ℕ) (a : Bool) → LinePlays DeskSteps k x p m old said a → Leads rest q (desk_of m) → Leads (with_line x rest) q (desk_of p)
+  line_on blank rest k p m q old said a l on = subst (λ (d : Desk). Leads rest q (desk_of d)) l.0 on
+  line_on unknown rest k p m q old said a l on = subst (λ (d : Desk). Leads rest q (desk_of d)) l.0 on
+  line_on (turn bs) rest k p m q old said a l on = λ ts n way. turn_on bs rest p m q ts n l.outcome l.step on way
 
   lines_on : (ls : List (List ℕ)) (k : ℕ) (p q : Desk) (old new : List ℕ) (ok : Bool) → Plays DeskSteps k ls p q old new ok → Leads (said_by ls) (desk_of q) (desk_of p)
   lines_on [] k p q old new ok e = λ ts n way. subst₂ (λ us d. Comes w h us (desk_of d)) (sym (append-nil ts)) (sym e.0) way.comes
   lines_on (l ∷ ls) k p q old new ok b =
-      line_on (understood l).0 (understood l).1 (said_by ls) k p b.mid (desk_of q) old b.said b.first_ok b.first (lines_on ls (k + 1) b.mid q b.said new b.rest_ok b.rest)
+      line_on (understood l) (said_by ls) k p b.mid (desk_of q) old b.said b.first_ok b.first (lines_on ls (k + 1) b.mid q b.said new b.rest_ok b.rest)
 
 -- a script that was played is a row of turns
 pub runs_row : (script : List ℕ) (p q : Desk) (old new : List ℕ) (ok : Bool) → Plays DeskSteps 1 (lines_of script) p q old new ok → RunsRow script (desk_of p) (desk_of q)

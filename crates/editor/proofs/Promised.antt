@@ -1,13 +1,13 @@
 -- The main promise, from the contracts alone. Assumes nothing.
-use Rattle.std.proofs.Common.{◌≡◌, ℕ, ◌+◌, ◌*◌, ◌<◌, ◌≤◌, Bool, true, cond, leb, List, [], ◌∷◌, ◌++◌, length, None, Ok, Err, Option, Result, sym, refl, ap, ◌∙◌, subst, append_assoc, arith, length-append, MatchResult}
-use Rattle.std.specs.List.{AllByRecursion}
-use Rattle.std.proofs.ByRecursion.{All-weaker}
+use Rattle.std.proofs.Common.{◌≡◌, ℕ, ◌+◌, ◌<◌, ◌≤◌, List, [], ◌∷◌, ◌++◌, length, None, Ok, Err, Option, Result, sym, refl, ap, ◌∙◌, subst, append_assoc, arith, length-append, MatchResult}
+use Rattle.std.specs.List.{All}
+use Rattle.std.proofs.lemmas.List.Elements.{All-nil}
 use Rattle.std.proofs.lemmas.List.{append-nil}
-use Rattle.std.proofs.lemmas.Bool.{le-leb, cond-true}
 use Rattle.pixel.specs.declared.Pixel.{Pixel}
 use Rattle.page.specs.Edits.{Edit, seen}
 use Rattle.page.specs.Fits.{AllFit}
 use Rattle.page.specs.History.{Turn, does, undo, redo, in_order, page}
+use Rattle.std.proofs.lemmas.Bool.Decides.{nat_tests}
 use Rattle.codec.specs.declared.edits.Refusal.{Refusal}
 use Rattle.codec.specs.declared.file.File.{File}
 use Rattle.codec.specs.Kinds.{built}
@@ -21,6 +21,7 @@ use Rattle.editor.specs.Runs.{Lent, Desk, Begins, Takes, Writes, Reads, Comes, b
 use Rattle.editor.specs.Theorems.{Ready}
 use Rattle.editor.specs.Main.{LentFits, DeskFits, Made, Meets, EnoughLent, Sized, joined, goes, SameSeen, saved, KeptInFiles, MainPromise}
 use Rattle.editor.proofs.Coming.{Good, HistoryGood, Stands, comes_stand, file_is, written_of, length-latest, length-edits, length-in_order, all_in_order, shows_the_page}
+use Rattle.editor.proofs.Filing.{write_free}
 use Rattle.editor.proofs.Theorems.{carried_out, still_ready}
 
 -- turns that fit, one after the other
@@ -36,15 +37,8 @@ fit_parts (undo ∷ ts) us f = fit_parts ts us f
 fit_parts (redo ∷ ts) us f = fit_parts ts us f
 
 -- where nothing is refused
-six_pass : (a b c d e f : Bool) (p q r s t u : Option Refusal) → a ≡ true → b ≡ true → c ≡ true → d ≡ true → e ≡ true → f ≡ true →
-    cond a (cond b (cond c (cond d (cond e (cond f None p) q) r) s) t) u ≡ None
-six_pass a b c d e f p q r s t u ha hb hc hd he hf = rw (ha, hb, hc, hd, he, hf) refl
-
 pub begin_free : (w h n : ℕ) (m : Lent) → Sized w h → EnoughLent w h n m → begin_refusal w h (length m.tiles) (length m.work) ≡ None
-begin_free w h n m size en =
-    six_pass (leb 1 w) (leb w 4096) (leb 1 h) (leb h 4096) (leb (544 * (w * h)) (length m.tiles)) (leb (w * h) (length m.work)) _ _ _ _ _ _
-    (le-leb 1 w size.some_wide) (le-leb w 4096 size.most_wide) (le-leb 1 h size.some_high) (le-leb h 4096 size.most_high)
-    (le-leb (544 * (w * h)) (length m.tiles) en.for_tiles) (le-leb (w * h) (length m.work) en.for_work)
+begin_free w h n m size en = grind (arith, nat_tests, size.some_wide, size.most_wide, size.some_high, size.most_high, en.for_tiles, en.for_work)
 
 begin_made : (w h : ℕ) (turns tiles work turns' tiles' work' : List ℕ) (r : Result Editor Refusal) → BeginEnds None w h turns tiles work turns' tiles' work' r →
     ((s : Editor) × (r ≡ Ok s)) × (turns' ≡ turns) × (length work' ≡ length work)
@@ -65,8 +59,8 @@ made_ok : (m : Lent) (s : Editor) (d : Desk) (r : Result Editor Refusal) → Mad
 made_ok m s d r made e = e ∙ ap (λ (x : Editor). let y : Result Editor Refusal = Ok x in y) (sym made.editor_is)
 
 -- a desk's own file is read, where enough is lent for its edits
-all_built : (es : List Edit) → AllByRecursion Good es → AllByRecursion Built es
-all_built es a = All-weaker Good Built (λ e g. g.1) es a
+all_built : (es : List Edit) → All Good es → All Built es
+all_built es a = λ k d l. (a k d l).1
 
 file_reads : (w h : ℕ) (ts : List Turn) (d : Desk) (bs : List ℕ) (m : Lent) → Stands w h ts d → bs ≡ file_of d.editor d.turns → EnoughLent w h (length ts) m → length ts ≤ 65536 →
     (P : File → Type 0) × MatchResult (read_file bs (lengths m.turns m.tiles m.work)) P (λ f. ⊥)
@@ -76,12 +70,12 @@ file_reads w h ts d bs m so is en few =
     let file : IsFile bs w h (in_order b.done []) b.undone
     = subst (λ (l : List ℕ). IsFile l w h (in_order b.done []) b.undone) (sym is) (file_is w h s d.turns so.wide_is so.high_is good) in
     let count : length (in_order b.done []) + length b.undone ≤ length ts
-    = omega (arith, length-in_order b.done [], length-latest d.turns s.done, length-edits d.turns s.done s.undone, s.counted, so.few) in
+    = omega (arith, length-in_order b.done [], length-latest d.turns s.timeline.done, length-edits d.turns s.timeline.done s.timeline.undone, s.counted, so.few) in
     let room : Enough (lengths m.turns m.tiles m.work) w h (length (in_order b.done []) + length b.undone)
     = record { for_tiles = en.for_tiles; for_work = en.for_work; few = omega arith; for_turns = omega (arith, en.for_turns) } in (
       _,
       file_written_read bs (lengths m.turns m.tiles m.work) w h (in_order b.done []) b.undone file
-          (all_in_order Built b.done [] (all_built _ good.0) tt) (all_built _ good.1) room,
+          (all_in_order Built b.done [] (all_built _ good.0) (All-nil Built)) (all_built _ good.1) room,
     )
 
 module _ (start : ℕ → ℕ → Lent → Desk) (happens : Desk → Turn → Desk) (shows : Desk → ℕ → ℕ → Pixel) (writes : Desk → List ℕ) (reads : Lent → List ℕ → Desk) (meets : Meets start happens shows writes reads) where
@@ -141,8 +135,7 @@ module _ (start : ℕ → ℕ → Lent → Desk) (happens : Desk → Turn → De
         let s = d.editor in let so = comes_stand w h ts d g.comes in
         let out = meets.write_meets d g.fits in
         let free : write_refusal s (length d.turns) (length d.file) ≡ None
-        = cond-true _ _ _ (le-leb (8192 * (s.done + s.undone)) (length d.turns) (omega (arith, s.counted, g.ready.for_turns)))
-        ∙ cond-true _ _ _ (le-leb (16 + 8192 * (s.done + s.undone)) (length d.file) (omega (arith, s.counted, so.few, g.total, en.for_file, ap length g.same_file))) in
+        = write_free s (length d.turns) (length d.file) (omega (arith, s.counted, g.ready.for_turns)) (omega (arith, s.counted, so.few, g.total, en.for_file, ap length g.same_file)) in
         let ends = subst (λ (o : Option Refusal). WriteEnds o s d.turns d.file out.1.0 out.0) free out.1.1 in
         let wrote = write_made s d.turns d.file out.1.0 out.0 ends in
         let k = wrote.0 in let file = out.1.0 in

@@ -108,7 +108,7 @@ module _ (w h at n : ℕ) (script : List ℕ) (ts : List Turn) (s : Editor) (tur
 pub play_shown : (w h x y : ℕ) (ts : List Turn) (d : Desk) → Comes w h ts d → shown d x y ≡ pixel_seen w h ts x y
 play_shown w h x y ts d c =
     let so = comes_stand w h ts d c in
-    let wide = d.editor.canvas.wide in let high = d.editor.canvas.high in
+    let wide = d.editor.timeline.canvas.size.wide in let high = d.editor.timeline.canvas.size.high in
     let room = le-leb (544 * (wide * high)) (length d.tiles) so.sound.room in
     elim (cases_Bool (ltb x w && ltb y h)) [
       | inl on ↦ let both = and_parts (ltb x w) (ltb y h) on in

@@ -1,6 +1,7 @@
 -- What follows of desks that come about. Assumes nothing.
-use Rattle.std.proofs.Common.{◌≡◌, ℕ, ◌+◌, ◌*◌, ◌<◌, Bool, true, cond, ltb, leb, List, [], ◌∷◌, ◌++◌, length, Some, None, Ok, Err, Option, Result, sym, refl, ap, ◌∙◌, subst, ap₂, append_assoc, arith, MatchResult}
-use Rattle.std.proofs.lemmas.Bool.{lt-ltb, le-leb}
+use Rattle.std.proofs.Common.{◌≡◌, ℕ, ◌+◌, ◌*◌, ◌<◌, List, [], ◌∷◌, ◌++◌, length, Some, None, Ok, Err, Option, Result, sym, ap, ◌∙◌, subst, ap₂, append_assoc, arith, MatchResult}
+use Rattle.std.proofs.lemmas.Bool.Decides.{nat_tests}
+use Rattle.pixel.specs.declared.sizes.Size.{Size}
 use Rattle.page.specs.Filters.{invert}
 use Rattle.pixel.specs.Pixels.{clear}
 use Rattle.page.specs.Edits.{Page, Edit, edited, layer, blank, seen}
@@ -23,15 +24,8 @@ use Rattle.editor.specs.Theorems.{then, held, Ready, CarriedOut, StillReady, Und
 use Rattle.editor.proofs.Coming.{comes_stand, shows_the_page}
 
 -- nothing is against a turn where the slices are long enough
-four_pass : (a b c d : Bool) (p q r s : Option Refusal) → a ≡ true → b ≡ true → c ≡ true → d ≡ true → cond a (cond b (cond c (cond d None p) q) r) s ≡ None
-four_pass a b c d p q r s ha hb hc hd = rw (ha, hb, hc, hd) refl
-
 pub none_against : (n : ℕ) (d : Desk) → Ready (n + 1) d → against d.editor (length d.turns) (length d.tiles) (length d.work) ≡ None
-none_against n d room =
-    let taken = d.editor.taken in let size = pixels d.editor in
-    four_pass (ltb taken 65536) (leb (8192 * (taken + 1)) (length d.turns)) (leb (544 * size) (length d.tiles)) (leb size (length d.work)) _ _ _ _
-    (lt-ltb taken 65536 (omega (arith, room.few))) (le-leb (8192 * (taken + 1)) (length d.turns) (omega (arith, room.for_turns)))
-    (le-leb (544 * size) (length d.tiles) room.for_tiles) (le-leb size (length d.work) room.for_work)
+none_against n d room = grind (arith, nat_tests, room.few, room.for_turns, room.for_tiles, room.for_work)
 
 -- a turn that is read is taken
 taken_by : (bs : List ℕ) (x : Result Read Refusal) (P : Read → Type 0) (d d' : Desk) (r : Result (Unit {0}) Refusal) → MatchResult x P (λ f. ⊥) →
@@ -47,7 +41,7 @@ carried_out n t d d' r f b room e =
     let read = subst (λ (o : Option Refusal). TurnEnds bs (read_turn bs o) d.editor d.turns d.tiles d.work d'.editor d'.turns d'.tiles d'.work r) free e in
     let x = taken_by bs (read_turn bs None) (λ s. turn_of bs s ≡ t) d d' r (written_turn_read t f b) read in
     let did = x.1.1 in
-    let same : pixels d'.editor ≡ pixels d.editor = ap₂ ◌*◌ did.same_wide did.same_high in (
+    let same : pixels d'.editor ≡ pixels d.editor = ap (λ (z : Size). z.wide * z.high) did.same_size in (
       x.0,
       record {
         few = omega (arith, room.few, did.one_taken);
@@ -92,8 +86,8 @@ held_agrees w h ts d c =
     let so = comes_stand w h ts d c in
     let P : ℕ → ℕ → model.History → Type 0 = λ x y b. Agree (held d) (made_by x y b.done) in
     subst (λ (x : ℕ). P x h (model.turns empty ts)) so.wide_is
-    (subst (λ (y : ℕ). P d.editor.canvas.wide y (model.turns empty ts)) so.high_is
-    (subst (P d.editor.canvas.wide d.editor.canvas.high) so.history_is so.sound.holds.agrees))
+    (subst (λ (y : ℕ). P d.editor.timeline.canvas.size.wide y (model.turns empty ts)) so.high_is
+    (subst (P d.editor.timeline.canvas.size.wide d.editor.timeline.canvas.size.high) so.history_is so.sound.holds.agrees))
 
 page_more : (w h : ℕ) (ts : List Turn) (e : Edit) → page w h (then ts (does e)) ≡ edited (page w h ts) e
 unfolding page

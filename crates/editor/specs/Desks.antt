@@ -1,23 +1,23 @@
 -- Desks with memory of their own: what a turn makes of one, and what one shows. Assumes nothing.
-use Rattle.std.specs.Prelude.{ℕ, List, [], Some, None, Ok, Err, vec_items, Option}
+use Rattle.std.specs.Prelude.{ℕ, List, [], Some, None, Ok, Err, vec_items, Option, Result}
 use Rattle.pixel.specs.declared.Pixel.{Pixel}
 use Rattle.pixel.specs.Pixels.{white}
 use Rattle.codec.specs.Meaning.{Bytes}
-use Rattle.words.specs.declared.taking.Outcome.{Outcome}
-use Rattle.words.specs.declared.taking.Outcome.TheVariants.{Taken, Refused, NoMemory}
+use Rattle.words.specs.declared.taking.Fault.{Fault}
+use Rattle.words.specs.declared.taking.Fault.TheVariants.{Refused, NoMemory}
 use Rattle.editor.specs.declared.desk.Desk.{Desk}
 use Rattle.editor.specs.Runs as runs
 use Rattle.editor.specs.Runs.{Takes, shown}
 
 -- the desk as runs have it; a program lends no slice for files
 abbrev pub desk_of : Desk → runs.Desk
-desk_of d = record { editor = d.editor; turns = vec_items d.turns; tiles = vec_items d.tiles; work = vec_items d.work; file = [] }
+desk_of d = record { editor = d.editor; turns = vec_items d.memory.turns; tiles = vec_items d.memory.tiles; work = vec_items d.memory.work; file = [] }
 
 -- a turn by its bytes: what the contract of `turn` says, with the answer that was given; memory is never wanting
-abbrev pub DeskSteps : Desk → List ℕ → Outcome → Desk → Type 0
-DeskSteps d bs Taken d' = Bytes bs × Takes (desk_of d) bs (desk_of d') (Ok tt)
-DeskSteps d bs (Refused why) d' = Bytes bs × Takes (desk_of d) bs (desk_of d') (Err why)
-DeskSteps d bs NoMemory d' = ⊥
+abbrev pub DeskSteps : Desk → List ℕ → Result (Unit {0}) Fault → Desk → Type 0
+DeskSteps d bs (Ok u) d' = Bytes bs × Takes (desk_of d) bs (desk_of d') (Ok u)
+DeskSteps d bs (Err (Refused why)) d' = Bytes bs × Takes (desk_of d) bs (desk_of d') (Err why)
+DeskSteps d bs (Err NoMemory) d' = ⊥
 
 -- the pixel shown, and white beyond the page
 abbrev pub or_white : Option Pixel → Pixel

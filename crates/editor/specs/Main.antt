@@ -30,7 +30,7 @@ pub record DeskFits (d : Desk) : Type 0 where
   pub tiles_fit : ByteSlice d.tiles
   pub work_fits : WordSlice d.work
   pub file_fits : ByteSlice d.file
-  pub opacities : (k : ℕ) (l : Layer) → k < 64 → (slice_index_or d.editor.canvas.layers k l).opacity < 256
+  pub opacities : (k : ℕ) (l : Layer) → k < 64 → (slice_index_or d.editor.timeline.canvas.layers k l).opacity < 256
 
 -- the desk on which an editor stands that was made in the slices m; the slice for files is not lent to what makes it
 pub record Made (m : Lent) (s : Editor) (d : Desk) : Type 0 where

@@ -1,34 +1,25 @@
 -- A whole row of turns, as the lines of a script say them: which are taken, and what is shown then. Assumes nothing.
-use Rattle.std.specs.Prelude.{◌≡◌, ℕ, ◌+◌, ◌*◌, ◌<◌, cond, List, [], ◌∷◌, ◌++◌, length, Some, None, Ok, Err, Option, Result, nat_le, nat_lt}
+use Rattle.std.specs.Prelude.{◌≡◌, ℕ, ◌+◌, ◌<◌, List, [], ◌∷◌, ◌++◌, length, Some, Ok, Err, Option, Result}
 use Rattle.page.specs.Edits.{seen}
 use Rattle.page.specs.History.{Turn, page}
 use Rattle.codec.specs.declared.edits.Turn.{Turn as Read}
-use Rattle.codec.specs.declared.edits.Lent.TheVariants.{Turns, Tiles, Work}
 use Rattle.codec.specs.declared.edits.Refusal.{Refusal}
-use Rattle.codec.specs.declared.edits.Refusal.TheVariants.{TooMany, Short}
 use Rattle.codec.specs.Meaning.{turn_of}
 use Rattle.codec.specs.Read.{read_turn}
-use Rattle.words.specs.declared.lines.Line.{Line}
-use Rattle.words.specs.declared.lines.Line.TheVariants.{Blank, Turn as Says, Unknown}
-use Rattle.words.specs.Lines.{understood}
+use Rattle.words.specs.Lines.{Says, blank, turn, unknown, understood}
 use Rattle.words.specs.Script.{lines_of}
-use Rattle.editor.specs.Promises.{pixels}
+use Rattle.editor.specs.Promises.{pixels, against_next}
 use Rattle.editor.specs.Runs.{Desk, Comes, shown}
 
 -- the turns that lines say, by their bytes
-abbrev pub with_line : Line → List ℕ → List (List ℕ) → List (List ℕ)
-with_line Blank bs rest = rest
-with_line Unknown bs rest = rest
-with_line Says bs rest = bs ∷ rest
+abbrev pub with_line : Says → List (List ℕ) → List (List ℕ)
+with_line blank rest = rest
+with_line unknown rest = rest
+with_line (turn bs) rest = bs ∷ rest
 
 abbrev pub said_by : List (List ℕ) → List (List ℕ)
 said_by [] = []
-said_by (l ∷ ls) = with_line (understood l).0 (understood l).1 (said_by ls)
-
--- what is against the next turn after n, on a page of so many pixels, with slices so long
-abbrev pub against_next : ℕ → ℕ → ℕ → ℕ → ℕ → Option Refusal
-against_next px turns tiles work n =
-    cond (nat_lt n 65536) (cond (nat_le (8192 * (n + 1)) turns) (cond (nat_le (544 * px) tiles) (cond (nat_le px work) None (Some (Short Work))) (Some (Short Tiles))) (Some (Short Turns))) (Some (TooMany 0))
+said_by (l ∷ ls) = with_line (understood l) (said_by ls)
 
 -- of turns by their bytes those that are taken, after n others: each is taken or refused by itself
 abbrev pub by_answer : Result Read Refusal → (Read → List Turn) → List Turn → List Turn

@@ -38,7 +38,7 @@ Takes d bs d' r =
     d'.editor d'.turns d'.tiles d'.work r
 
 abbrev pub shown : Desk → ℕ → ℕ → Option Pixel
-shown d i j = shown_at d.editor.canvas d.tiles i j
+shown d i j = shown_at d.editor.timeline.canvas d.tiles i j
 
 abbrev pub Writes : Desk → List ℕ → List ℕ → Result ℕ Refusal → Type 0
 Writes d file file' r = WriteEnds (write_refusal d.editor (length d.turns) (length file)) d.editor d.turns file file' r

@@ -1,5 +1,5 @@
 -- A script: turns one after the other in bytes, played from the blank page on. Assumes nothing.
-use Rattle.std.specs.Prelude.{◌≡◌, ℕ, ◌+◌, ◌<◌, ◌≤◌, cond, ◌&&◌, ◌||◌, ◌⊎◌, List, [], length, take, Some, None, Ok, Err, Option, Result, ◌==◌, nat_lt, slice_index}
+use Rattle.std.specs.Prelude.{◌≡◌, ℕ, ◌+◌, ◌<◌, ◌≤◌, if◌then◌else◌, ◌&&◌, ◌||◌, ◌⊎◌, List, [], length, take, Some, None, Ok, Err, Option, Result, ◌==◌, nat_lt, slice_index}
 use Rattle.std.specs.List.{between, flat_map}
 use Rattle.pixel.specs.declared.Pixel.{Pixel}
 use Rattle.page.specs.Edits.{seen}
@@ -25,7 +25,7 @@ end_or_all bs (Ok n) = n
 end_or_all bs (Err f) = length bs
 
 abbrev pub turn_end : List ℕ → ℕ → ℕ
-turn_end bs at = cond (slice_index bs at == 17 || slice_index bs at == 18) (at + 1) (end_or_all bs (end_of bs at))
+turn_end bs at = if slice_index bs at == 17 || slice_index bs at == 18 then at + 1 else end_or_all bs (end_of bs at)
 
 pub record Cut (bs : List ℕ) (at n : ℕ) : Type 0 where
   pub is : n ≡ turn_end bs at
@@ -42,7 +42,7 @@ desk s turns tiles work = record { editor = s; turns = turns; tiles = tiles; wor
 
 -- what is seen of the page at a pixel, if it is on the page
 abbrev pub pixel_seen : ℕ → ℕ → List Turn → ℕ → ℕ → Option Pixel
-pixel_seen w h ts x y = cond (nat_lt x w && nat_lt y h) (Some (seen (page w h ts) x y)) None
+pixel_seen w h ts x y = if nat_lt x w && nat_lt y h then Some (seen (page w h ts) x y) else None
 
 -- the whole script was played: it is the bytes of the turns ts, and the pixel is that of their page
 pub record Played (w h x y : ℕ) (script : List ℕ) (o : Option Pixel) (turns tiles work : List ℕ) : Type 0 where

@@ -17,7 +17,7 @@ then ts t = ts ++ t ∷ []
 
 -- the page that the desk's bytes mean
 abbrev pub held : Desk → Page
-held d = view d.editor.canvas d.tiles
+held d = view d.editor.timeline.canvas d.tiles
 
 -- slices that are long enough for n turns more, and not too many turns
 pub record Ready (n : ℕ) (d : Desk) : Type 0 where

@@ -6,30 +6,34 @@ use crate::editing::{show, turn};
 use crate::state::Editor;
 use pixel::{Pixel, WHITE};
 use words::showing::Shows;
-use words::taking::{Outcome, Takes};
+use words::taking::{Fault, Takes};
 
-#[derive(Drop)]
-pub struct Desk {
-    pub editor: Editor,
+// Memory that is lent to the editor.
+#[derive(Debug, Drop)]
+pub struct Memory {
     pub turns: Vec<u8>,
     pub tiles: Vec<u8>,
     pub work: Vec<u32>,
 }
 
+#[derive(Drop)]
+pub struct Desk {
+    pub editor: Editor,
+    pub memory: Memory,
+}
+
 impl Takes for Desk {
     ghost steps = { DeskSteps };
 
-    fn take(&mut self, bytes: &[u8]) -> Outcome {
-        match turn(
+    fn take(&mut self, bytes: &[u8]) -> Result<(), Fault> {
+        turn(
             &mut self.editor,
-            self.turns.as_mut_slice(),
-            self.tiles.as_mut_slice(),
-            self.work.as_mut_slice(),
+            self.memory.turns.as_mut_slice(),
+            self.memory.tiles.as_mut_slice(),
+            self.memory.work.as_mut_slice(),
             bytes,
-        ) {
-            Ok(()) => Outcome::Taken,
-            Err(why) => Outcome::Refused(why),
-        }
+        )?;
+        Ok(())
     }
 }
 
@@ -37,9 +41,6 @@ impl Shows for Desk {
     ghost seen = { seen_of };
 
     fn pixel(&self, x: usize, y: usize) -> Pixel {
-        match show(&self.editor, self.tiles.as_slice(), x, y) {
-            Some(p) => p,
-            None => WHITE,
-        }
+        show(&self.editor, self.memory.tiles.as_slice(), x, y).unwrap_or(WHITE)
     }
 }

@@ -1,58 +1,38 @@
 // begin, turn and show. None has a `requires`: what cannot be done is refused, and all is then left as it was.
+// The slices that are lent are parameters one by one: the editor allocates nothing, and its five functions have these signatures from the start.
 ghost use Rattle.std.specs.Prelude.{◌≡◌, ℕ, length, None};
 ghost use Rattle.codec.specs.Laws.{Taken};
 ghost use Rattle.codec.specs.Meaning.{turn_of};
 ghost use Rattle.codec.specs.Read.{read_turn};
 ghost use Rattle.tiles.specs.Places.{shown_at};
 ghost use Rattle.history.specs.Moves.{Moved, Lends};
-ghost use Rattle.editor.specs.Promises.{begin_refusal, BeginEnds, against, TurnEnds};
+ghost use Rattle.editor.specs.Promises.{begin_refusal, BeginEnds, lengths, against, TurnEnds};
 
 use crate::state::Editor;
-use canvas::layout::area;
-use canvas::state::Canvas;
-use codec::edits::{Lent, Refusal, Turn};
+use codec::edits::{Refusal, Turn};
+use codec::file::{Lengths, against_edit, page_size};
 use codec::read::read_turn;
-use history::moves::{Counts, do_edit, redo, undo};
+use history::moves::Timeline;
 use history::slots::remake;
 use pixel::Pixel;
 
-// Why a page of this size is refused, if it is.
-fn refused_size(wide: usize, high: usize, tiles: usize, work: usize) -> Option<Refusal>
-    ensures { result ≡ begin_refusal wide high tiles work }
+// How long the lent slices are.
+pub(crate) fn lengths(turns: &[u8], tiles: &[u8], work: &[u32]) -> Lengths
+    ensures { result ≡ lengths turns.now tiles.now work.now }
 {
-    if wide < 1 || wide > 4096 {
-        return Some(Refusal::NoSize(4));
+    Lengths {
+        turns: turns.len(),
+        tiles: tiles.len(),
+        work: work.len(),
     }
-    if high < 1 || high > 4096 {
-        return Some(Refusal::NoSize(6));
-    }
-    if tiles < 544 * area(wide, high) {
-        return Some(Refusal::Short(Lent::Tiles));
-    }
-    if work < area(wide, high) {
-        return Some(Refusal::Short(Lent::Work));
-    }
-    None
 }
 
 // What is against any turn at its first byte, if anything.
-fn against_turn(editor: &Editor, turns: usize, tiles: usize, work: usize) -> Option<Refusal>
-    ensures { result ≡ against editor.now turns tiles work }
+fn against_turn(editor: &Editor, lent: Lengths) -> Option<Refusal>
+    ensures { result ≡ against editor.now lent.turns lent.tiles lent.work }
 {
-    if editor.taken >= 65536 {
-        return Some(Refusal::TooMany(0));
-    }
-    if turns < 8192 * (editor.taken + 1) {
-        return Some(Refusal::Short(Lent::Turns));
-    }
-    let n = area(editor.canvas.wide, editor.canvas.high);
-    if tiles < 544 * n {
-        return Some(Refusal::Short(Lent::Tiles));
-    }
-    if work < n {
-        return Some(Refusal::Short(Lent::Work));
-    }
-    None
+    let enough = lent.enough(editor.timeline.canvas.size.area());
+    against_edit(lent.turns, editor.taken, 0).or(enough.err())
 }
 
 // A blank page.
@@ -65,34 +45,26 @@ pub fn begin(
 ) -> Result<Editor, Refusal>
     ensures { BeginEnds (begin_refusal width height (length tiles.old) (length work.old)) width height turns.old tiles.old work.old turns.new tiles.new work.new result }
 {
-    if let Some(why) = refused_size(width, height, tiles.len(), work.len()) {
-        return Err(why);
-    }
-    let canvas = remake(width, height, turns, 0, tiles);
-    Ok(Editor {
+    let size = page_size(width, height)?;
+    lengths(turns, tiles, work).enough(size.area())?;
+    let canvas = remake(size, turns, 0, tiles);
+    let timeline = Timeline {
         canvas,
         done: 0,
         undone: 0,
-        taken: 0,
-    })
+    };
+    Ok(Editor { timeline, taken: 0 })
 }
 
 // What a turn that is taken does.
-fn step(
-    canvas: &mut Canvas,
-    counts: Counts,
-    turn: Turn,
-    turns: &mut [u8],
-    tiles: &mut [u8],
-    bytes: &[u8],
-) -> Counts
-    requires { (Lends canvas.old counts turns.old tiles.old) × (Taken bytes.now None turn) }
-    ensures { Moved (turn_of bytes.now turn) canvas.old counts turns.old tiles.old canvas.new result turns.new tiles.new }
+fn step(timeline: &mut Timeline, turn: Turn, turns: &mut [u8], tiles: &mut [u8], bytes: &[u8])
+    requires { (Lends timeline.old turns.old tiles.old) × (Taken bytes.now None turn) }
+    ensures { Moved (turn_of bytes.now turn) timeline.old turns.old tiles.old timeline.new turns.new tiles.new }
 {
     match turn {
-        Turn::Undo => undo(canvas, counts, turns, tiles),
-        Turn::Redo => redo(canvas, counts, turns, tiles),
-        Turn::Does(_) => do_edit(canvas, counts, turns, tiles, bytes),
+        Turn::Undo => timeline.undo(turns, tiles),
+        Turn::Redo => timeline.redo(turns, tiles),
+        Turn::Does(_) => timeline.do_edit(turns, tiles, bytes),
     }
 }
 
@@ -106,22 +78,16 @@ pub fn turn(
 ) -> Result<(), Refusal>
     ensures { TurnEnds bytes.now (read_turn bytes.now (against editor.old (length turns.old) (length tiles.old) (length work.old))) editor.old turns.old tiles.old work.old editor.new turns.new tiles.new work.new result }
 {
-    let against = against_turn(editor, turns.len(), tiles.len(), work.len());
+    let against = against_turn(editor, lengths(turns, tiles, work));
     let turn = read_turn(bytes, against)?;
-    let counts = Counts {
-        done: editor.done,
-        undone: editor.undone,
-    };
-    let next = step(&mut editor.canvas, counts, turn, turns, tiles, bytes);
-    editor.done = next.done;
-    editor.undone = next.undone;
+    step(&mut editor.timeline, turn, turns, tiles, bytes);
     editor.taken += 1;
     Ok(())
 }
 
 // What is seen at a pixel.
 pub fn show(editor: &Editor, tiles: &[u8], x: usize, y: usize) -> Option<Pixel>
-    ensures { result ≡ shown_at editor.now.canvas tiles.now x y }
+    ensures { result ≡ shown_at editor.now.timeline.canvas tiles.now x y }
 {
-    tiles::showing::show(&editor.canvas, tiles, x, y)
+    tiles::showing::show(&editor.timeline.canvas, tiles, x, y)
 }

@@ -3,18 +3,21 @@ ghost use Rattle.std.specs.Prelude.{◌≡◌, ℕ, length};
 ghost use Rattle.codec.specs.Files.{read_file};
 ghost use Rattle.editor.specs.Promises.{write_refusal, WriteEnds, lengths, ReadEnds};
 
+use crate::editing::lengths;
 use crate::state::Editor;
 use codec::edits::{Lent, Refusal};
-use codec::file::{File, Lengths, read_file};
+use codec::file::{File, read_file};
 use codec::write::write_head;
 use history::filing::{read_slots, write_slots};
+use history::moves::Timeline;
 use history::slots::remake;
+use pixel::sizes::Size;
 
 // Writes the file, and says how long it is; the rest of the slice stays.
 pub fn write(editor: &Editor, turns: &[u8], file: &mut [u8]) -> Result<usize, Refusal>
     ensures { WriteEnds (write_refusal editor.now (length turns.now) (length file.old)) editor.now turns.now file.old file.new result }
 {
-    let count = editor.done + editor.undone;
+    let count = editor.timeline.done + editor.timeline.undone;
     if turns.len() < 8192 * count {
         return Err(Refusal::Short(Lent::Turns));
     }
@@ -22,10 +25,10 @@ pub fn write(editor: &Editor, turns: &[u8], file: &mut [u8]) -> Result<usize, Re
         return Err(Refusal::Short(Lent::File));
     }
     let head = File {
-        width: editor.canvas.wide as u16,
-        height: editor.canvas.high as u16,
-        done: editor.done as u32,
-        undone: editor.undone as u32,
+        width: editor.timeline.canvas.size.wide as u16,
+        height: editor.timeline.canvas.size.high as u16,
+        done: editor.timeline.done as u32,
+        undone: editor.timeline.undone as u32,
     };
     let start = write_head(file, head);
     Ok(write_slots(file, start, turns, count))
@@ -40,26 +43,22 @@ pub fn read(
 ) -> Result<Editor, Refusal>
     ensures { ReadEnds file.now (read_file file.now (lengths turns.old tiles.old work.old)) turns.old tiles.old work.old turns.new tiles.new work.new result }
 {
-    let lent = Lengths {
-        turns: turns.len(),
-        tiles: tiles.len(),
-        work: work.len(),
-    };
-    let head = read_file(file, lent)?;
+    let head = read_file(file, lengths(turns, tiles, work))?;
     let done = head.done as usize;
     let undone = head.undone as usize;
     read_slots(turns, file, done + undone);
-    let canvas = remake(
-        head.width as usize,
-        head.height as usize,
-        turns,
-        done,
-        tiles,
-    );
-    Ok(Editor {
+    let size = Size {
+        wide: head.width as usize,
+        high: head.height as usize,
+    };
+    let canvas = remake(size, turns, done, tiles);
+    let timeline = Timeline {
         canvas,
         done,
         undone,
+    };
+    Ok(Editor {
+        timeline,
         taken: done + undone,
     })
 }

@@ -4,6 +4,7 @@ ghost use Rattle.editor.specs.Script.{Cut, PlayEnds};
 
 use crate::editing::{begin, show, turn};
 use codec::edits::Refusal;
+use codec::kinds::{REDO, UNDO};
 use codec::read::edit_end;
 use pixel::Pixel;
 
@@ -12,8 +13,7 @@ fn turn_end(script: &[u8], at: usize) -> usize
     requires { at < length script.now }
     ensures { Cut script.now at result }
 {
-    let kind = script[at];
-    if kind == 17 || kind == 18 {
+    if script[at] == UNDO || script[at] == REDO {
         return at + 1;
     }
     match edit_end(script, at) {

@@ -1,13 +1,11 @@
 // The editor's own few numbers; all else is in the lent memory.
 ghost use Rattle.std.specs.Prelude.{◌+◌, ◌≤◌};
 
-use canvas::state::Canvas;
+use history::moves::Timeline;
 
 #[derive(Drop)]
 pub struct Editor {
-    pub canvas: Canvas,
-    pub done: usize,
-    pub undone: usize,
+    pub timeline: Timeline,
     pub taken: usize,
-    ghost counted: { (done + undone ≤ taken) × (taken ≤ 65536) },
+    ghost counted: { (timeline.done + timeline.undone ≤ taken) × (taken ≤ 65536) },
 }

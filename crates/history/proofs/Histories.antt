@@ -1,8 +1,9 @@
 -- The history in the slots, and what undo, redo and a new edit make of it and of what the tiles hold. Assumes nothing.
-use Rattle.std.proofs.Common.{◌≡◌, ℕ, zero, suc, ◌+◌, ◌-◌, ◌*◌, ◌<◌, ◌≤◌, List, [], ◌∷◌, ◌++◌, length, get_or, take, drop, sym, refl, ap, ◌∙◌, subst, ap₂, subst₂, inl, inr, append_assoc, append-nil, add-one, arith, length-drop}
+use Rattle.std.proofs.Common.{◌≡◌, ℕ, zero, suc, ◌+◌, ◌-◌, ◌*◌, ◌<◌, ◌≤◌, List, [], ◌∷◌, ◌++◌, length, get_or, take, drop, sym, refl, ap, ◌∙◌, subst, ap₂, inl, inr, append_assoc, append-nil, add-one, arith, length-drop}
 use Rattle.std.proofs.lemmas.List.{same_lists, take-append-drop, length-take-le, get_or-take, get_or-drop, get_or_default}
 use Rattle.std.proofs.lemmas.Bool.{cond-true, cases_order}
 use Rattle.pixel.specs.Bytes.{BytesTo}
+use Rattle.pixel.specs.declared.sizes.Size.{Size}
 use Rattle.page.specs.Edits.{Page, Edit, edited, blank}
 use Rattle.page.specs.History.{History, Turn, turned, does, undo, redo, in_order}
 use Rattle.page.specs.Agree.{Agree}
@@ -17,7 +18,7 @@ use Rattle.canvas.specs.Applying.{known, Applied}
 use Rattle.canvas.specs.View.{view}
 use Rattle.canvas.proofs.Views.{view_kept}
 use Rattle.tiles.specs.Places.{AllBuilt}
-use Rattle.history.specs.declared.moves.Counts.{Counts}
+use Rattle.history.specs.declared.moves.Timeline.{Timeline}
 use Rattle.history.specs.Slots.{slot_edit, latest_in, edits_in, history_in, made_by, Holds, SlotPut}
 use Rattle.history.specs.Moves.{Moved}
 use Rattle.history.proofs.Standing.{stands_read, slot_same}
@@ -27,14 +28,11 @@ pub made_more : (w h : ℕ) (es : List Edit) (e : Edit) (p q : Page) → Agree p
 made_more w h es e p q a b = subst (Agree q) (sym (after_more (blank w h) es e)) (agree_trans _ _ _ b (edits_agree _ _ e a))
 
 -- tiles that were all built hold the page
-pub all_hold : (s : Canvas) (es : List Edit) (xs ys : List ℕ) → Agree (view s xs) (made_by s.wide s.high es) → AllBuilt s xs ys → Holds s es ys
+pub all_hold : (s : Canvas) (es : List Edit) (xs ys : List ℕ) → Agree (view s xs) (made_by s.size.wide s.size.high es) → AllBuilt s xs ys → Holds s es ys
 all_hold s es xs ys a b =
-    let same : Agree (view s ys) (made_by s.wide s.high es)
-    = agree_trans _ _ _ (view_kept s xs ys (512 * (s.wide * s.high)) (516 * (s.wide * s.high)) (omega arith) (omega arith) b.wrote) a in
-    record { agrees = same; shown = λ i j iw jh. b.shown i j iw jh ∙ seen_agree (view s ys) (made_by s.wide s.high es) i j same iw jh }
-
-abbrev counts : ℕ → ℕ → Counts
-counts d u = record { done = d; undone = u }
+    let same : Agree (view s ys) (made_by s.size.wide s.size.high es)
+    = agree_trans _ _ _ (view_kept s xs ys (512 * (s.size.wide * s.size.high)) (516 * (s.size.wide * s.size.high)) (omega arith) (omega arith) b.wrote) a in
+    record { agrees = same; shown = λ i j iw jh. b.shown i j iw jh ∙ seen_agree (view s ys) (made_by s.size.wide s.size.high es) i j same iw jh }
 
 -- undo and redo of the history alone
 pub undo_next : (turns : List ℕ) (d u : ℕ) → (d ≡ 0 → ⊥) → history_in turns (d - 1) (u + 1) ≡ turned (history_in turns d u) undo
@@ -53,9 +51,9 @@ no_undo turns d u e = subst (λ (k : ℕ). history_in turns k u ≡ turned (hist
 pub no_redo : (turns : List ℕ) (d u : ℕ) → u ≡ 0 → history_in turns d u ≡ turned (history_in turns d u) redo
 no_redo turns d u e = subst (λ (k : ℕ). history_in turns d k ≡ turned (history_in turns d k) redo) (sym e) refl
 
-pub stays : (t : Turn) (s : Canvas) (c : Counts) (turns tiles : List ℕ) → history_in turns c.done c.undone ≡ turned (history_in turns c.done c.undone) t → Moved t s c turns tiles s c turns tiles
-stays t s c turns tiles e =
-    record { same_wide = refl; same_high = refl; turns_long = refl; tiles_long = refl; few = omega arith; history_next = e; holds_next = λ a. a }
+pub stays : (t : Turn) (s : Timeline) (turns tiles : List ℕ) → history_in turns s.done s.undone ≡ turned (history_in turns s.done s.undone) t → Moved t s turns tiles s turns tiles
+stays t s turns tiles e =
+    record { same_size = refl; turns_long = refl; tiles_long = refl; few = omega arith; history_next = e; holds_next = λ a. a }
 
 -- A NEW EDIT, whose bytes are copied into the slot behind those that are done.
 slot_written : (bs turns turns' : List ℕ) (d : ℕ) (e : Edit) → EditBytes bs e → 8192 * d + length bs ≤ length turns → BytesTo (λ k. get_or bs k 0) (8192 * d) (length bs) turns turns' → slot_edit turns' d ≡ e
@@ -93,24 +91,24 @@ pub edits_kept : (xs ys : List ℕ) (a n : ℕ) → ((j : ℕ) → j < a + n →
 edits_kept xs ys a zero same = refl
 edits_kept xs ys a (suc n) same = ap₂ (λ e es. e ∷ es) (same a (omega arith)) (edits_kept xs ys (suc a) n (λ j l. same j (omega arith)))
 
-pub did_edit : (bs turns turns' tiles mid tiles' : List ℕ) (s t : Canvas) (c : Counts) (e f : Edit) → EditBytes bs e → SlotPut bs c.done turns turns' → f ≡ slot_edit turns' c.done → Applied s f tiles t mid → AllBuilt t mid tiles' →
-    Moved (does e) s c turns tiles t (record { done = c.done + 1; undone = 0 }) turns' tiles'
-did_edit bs turns turns' tiles mid tiles' s t c e f b put is applied all =
-    let d = c.done in
+pub did_edit : (bs turns turns' tiles mid tiles' : List ℕ) (s : Timeline) (t : Canvas) (e f : Edit) → EditBytes bs e → SlotPut bs s.done turns turns' → f ≡ slot_edit turns' s.done → Applied s.canvas f tiles t mid → AllBuilt t mid tiles' →
+    Moved (does e) s turns tiles (record { canvas = t; done = s.done + 1; undone = 0 }) turns' tiles'
+did_edit bs turns turns' tiles mid tiles' s t e f b put is applied all =
+    let d = s.done in
+    let z = s.canvas.size in
     let new : slot_edit turns' d ≡ e = put.here e b in
     let old : latest_in turns' d ≡ latest_in turns d = latest_kept turns turns' d (λ j l. put.others j (λ x. omega arith)) in
     let row : latest_in turns' (d + 1) ≡ e ∷ latest_in turns d = ap (latest_in turns') (add-one d) ∙ ap₂ (λ x xs. x ∷ xs) new old in
     record {
-      same_wide = applied.same_wide;
-      same_high = applied.same_high;
+      same_size = applied.same_size;
       turns_long = put.long;
       tiles_long = all.wrote.long ∙ applied.long;
       few = omega arith;
       history_next = ap (λ (es : List Edit). let b : History = record { done = es; undone = [] } in b) row;
       holds_next = λ held. subst (λ (es : List Edit). Holds t es tiles') (sym row)
           (all_hold t (e ∷ latest_in turns d) mid tiles'
-          (subst₂ (λ w h. Agree (view t mid) (made_by w h (e ∷ latest_in turns d))) (sym applied.same_wide) (sym applied.same_high)
-          (made_more s.wide s.high (latest_in turns d) e (view s tiles) (view t mid) held.agrees (subst (λ (x : Edit). Agree (view t mid) (edited (view s tiles) x)) (is ∙ new) applied.agrees))) all);
+          (subst (λ (y : Size). Agree (view t mid) (made_by y.wide y.high (e ∷ latest_in turns d))) (sym applied.same_size)
+          (made_more z.wide z.high (latest_in turns d) e (view s.canvas tiles) (view t mid) held.agrees (subst (λ (x : Edit). Agree (view t mid) (edited (view s.canvas tiles) x)) (is ∙ new) applied.agrees))) all);
     }
 
 -- ROWS OF SLOTS: one more at the end, two rows joined, and the done edits in their order

@@ -1,11 +1,10 @@
 -- Slots written to a file one after the other, and read from one. Assumes nothing.
 use Rattle.std.proofs.Common.{◌≡◌, ℕ, suc, ◌+◌, ◌-◌, ◌*◌, ◌<◌, ◌≤◌, List, [], ◌∷◌, ◌++◌, length, get_or, take, drop, sym, refl, ap, ◌∙◌, subst, ap₂, add-one, arith, length-append, length-drop, drop-cons}
-use Rattle.std.proofs.ByRecursion.{All-get_or}
 use Rattle.std.proofs.lemmas.List.{take_at, drop_at, drop-drop, take_more}
 use Rattle.page.specs.Edits.{Edit, add_layer}
 use Rattle.page.specs.Fits.{Fits}
 use Rattle.codec.specs.Written.{written}
-use Rattle.codec.specs.Files.{all_written, Built}
+use Rattle.codec.specs.Files.{all_written}
 use Rattle.codec.specs.Laws.{EditBytes}
 use Rattle.codec.specs.Read.{edit_or_none, edit_and_end}
 use Rattle.codec.specs.Put.{put_at}
@@ -31,7 +30,7 @@ module _ (bs : List ℕ) (es : List Edit) (at k : ℕ) (row : RowStands bs 16 es
   next = get_or es k add_layer
 
   pub next_fits : Fits next
-  next_fits = All-get_or Fits es k add_layer l row.fit
+  next_fits = row.fit k add_layer l
 
   next_stands : drop at bs ≡ written next ++ all_written (drop (suc k) es)
   next_stands = stands ∙ ap (λ fs. all_written fs) (drop-cons es k add_layer l)
@@ -48,7 +47,7 @@ module _ (bs : List ℕ) (es : List Edit) (at k : ℕ) (row : RowStands bs 16 es
   next_bytes end is =
       record {
         fits = next_fits;
-        is_built = All-get_or Built es k add_layer l row.are_built;
+        is_built = row.are_built k add_layer l;
         is = ap (take (end - at)) next_stands ∙ take_at (written next) (all_written (drop (suc k) es)) (end - at) (omega arith);
       }
 

@@ -1,7 +1,8 @@
 -- The history read off the slots of the turns. Assumes nothing.
 -- Slot k begins at 8192 k with an edit's bytes. The first slots hold the done edits, from the first; the undone ones, the next to redo first, are behind them.
 use Rattle.std.specs.Prelude.{◌≡◌, ℕ, zero, suc, ◌*◌, List, [], ◌∷◌, length, drop, ◌≢◌}
-use Rattle.std.specs.List.{AllByRecursion}
+use Rattle.std.specs.List.{All}
+use Rattle.pixel.specs.declared.sizes.Size.{Size}
 use Rattle.page.specs.Edits.{Page, Edit, blank, after}
 use Rattle.page.specs.Fits.{Fits}
 use Rattle.page.specs.History.{History, in_order}
@@ -40,20 +41,18 @@ made_by w h es = after (blank w h) (in_order es [])
 
 -- the canvas and the bytes are the page that the edits make, and the tiles show it
 pub record Holds (s : Canvas) (es : List Edit) (tiles : List ℕ) : Type 0 where
-  pub agrees : Agree (view s tiles) (made_by s.wide s.high es)
-  pub shown : Shown s (made_by s.wide s.high es) tiles
+  pub agrees : Agree (view s tiles) (made_by s.size.wide s.size.high es)
+  pub shown : Shown s (made_by s.size.wide s.size.high es) tiles
 
 -- a page made anew from its slots
-pub record Replayed (w h : ℕ) (es : List Edit) (tiles tiles' : List ℕ) (s : Canvas) : Type 0 where
-  pub wide_is : s.wide ≡ w
-  pub high_is : s.high ≡ h
-  pub agrees : Agree (view s tiles') (made_by w h es)
+pub record Replayed (z : Size) (es : List Edit) (tiles tiles' : List ℕ) (s : Canvas) : Type 0 where
+  pub size_is : s.size ≡ z
+  pub agrees : Agree (view s tiles') (made_by z.wide z.high es)
   pub long : length tiles' ≡ length tiles
 
 -- and its tiles too
-pub record Remade (w h : ℕ) (es : List Edit) (tiles tiles' : List ℕ) (s : Canvas) : Type 0 where
-  pub wide_is : s.wide ≡ w
-  pub high_is : s.high ≡ h
+pub record Remade (z : Size) (es : List Edit) (tiles tiles' : List ℕ) (s : Canvas) : Type 0 where
+  pub size_is : s.size ≡ z
   pub holds : Holds s es tiles'
   pub long : length tiles' ≡ length tiles
 
@@ -66,5 +65,5 @@ pub record SlotPut (bs : List ℕ) (k : ℕ) (turns turns' : List ℕ) : Type 0 
 -- the bytes from `at` on are the writing of these edits and nothing else
 pub record RowStands (bs : List ℕ) (at : ℕ) (es : List Edit) : Type 0 where
   pub is : drop at bs ≡ all_written es
-  pub fit : AllByRecursion Fits es
-  pub are_built : AllByRecursion Built es
+  pub fit : All Fits es
+  pub are_built : All Built es

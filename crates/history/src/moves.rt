@@ -11,62 +11,49 @@ use canvas::state::Canvas;
 use codec::read::edit_at;
 use tiles::rebuilding::rebuild_all;
 
-// How many edits are done and how many undone.
-#[derive(Clone, Copy)]
-pub struct Counts {
+// A page in its row of edits: what the done ones make of the blank page, and how many are done and undone.
+#[derive(Drop)]
+pub struct Timeline {
+    pub canvas: Canvas,
     pub done: usize,
     pub undone: usize,
 }
 
-// Takes back the last edit that is done, if there is one.
-pub fn undo(canvas: &mut Canvas, counts: Counts, turns: &[u8], tiles: &mut [u8]) -> Counts
-    requires { Lends canvas.old counts turns.now tiles.old }
-    ensures { Moved model_undo canvas.old counts turns.now tiles.old canvas.new result turns.now tiles.new }
-{
-    if counts.done == 0 {
-        return counts;
+impl Timeline {
+    // Takes back the last edit that is done, if there is one.
+    pub fn undo(&mut self, turns: &[u8], tiles: &mut [u8])
+        requires { Lends self.old turns.now tiles.old }
+        ensures { Moved model_undo self.old turns.now tiles.old self.new turns.now tiles.new }
+    {
+        if self.done > 0 {
+            self.done -= 1;
+            self.undone += 1;
+            self.canvas = remake(self.canvas.size, turns, self.done, tiles);
+        }
     }
-    let done = counts.done - 1;
-    *canvas = remake(canvas.wide, canvas.high, turns, done, tiles);
-    Counts {
-        done,
-        undone: counts.undone + 1,
-    }
-}
 
-// Does again the last edit that was undone, if there is one.
-pub fn redo(canvas: &mut Canvas, counts: Counts, turns: &[u8], tiles: &mut [u8]) -> Counts
-    requires { Lends canvas.old counts turns.now tiles.old }
-    ensures { Moved model_redo canvas.old counts turns.now tiles.old canvas.new result turns.now tiles.new }
-{
-    if counts.undone == 0 {
-        return counts;
+    // Does again the last edit that was undone, if there is one.
+    pub fn redo(&mut self, turns: &[u8], tiles: &mut [u8])
+        requires { Lends self.old turns.now tiles.old }
+        ensures { Moved model_redo self.old turns.now tiles.old self.new turns.now tiles.new }
+    {
+        if self.undone > 0 {
+            self.done += 1;
+            self.undone -= 1;
+            self.canvas = remake(self.canvas.size, turns, self.done, tiles);
+        }
     }
-    let done = counts.done + 1;
-    *canvas = remake(canvas.wide, canvas.high, turns, done, tiles);
-    Counts {
-        done,
-        undone: counts.undone - 1,
-    }
-}
 
-// Does a new edit, by its bytes, and forgets what was undone.
-pub fn do_edit(
-    canvas: &mut Canvas,
-    counts: Counts,
-    turns: &mut [u8],
-    tiles: &mut [u8],
-    bytes: &[u8],
-) -> Counts
-    requires { (Lends canvas.old counts turns.old tiles.old) × (((e : Model) × EditBytes bytes.now e)) }
-    ensures { (e : Model) → EditBytes bytes.now e → Moved (does e) canvas.old counts turns.old tiles.old canvas.new result turns.new tiles.new }
-{
-    put_slot(turns, counts.done, bytes);
-    let (edit, _) = edit_at(turns, 8192 * counts.done);
-    apply(canvas, tiles, edit, turns);
-    rebuild_all(canvas, tiles);
-    Counts {
-        done: counts.done + 1,
-        undone: 0,
+    // Does a new edit, by its bytes, and forgets what was undone.
+    pub fn do_edit(&mut self, turns: &mut [u8], tiles: &mut [u8], bytes: &[u8])
+        requires { (Lends self.old turns.old tiles.old) × (((e : Model) × EditBytes bytes.now e)) }
+        ensures { (e : Model) → EditBytes bytes.now e → Moved (does e) self.old turns.old tiles.old self.new turns.new tiles.new }
+    {
+        put_slot(turns, self.done, bytes);
+        let (edit, _) = edit_at(turns, 8192 * self.done);
+        apply(&mut self.canvas, tiles, edit, turns);
+        rebuild_all(&self.canvas, tiles);
+        self.done += 1;
+        self.undone = 0;
     }
 }

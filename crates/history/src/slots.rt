@@ -1,24 +1,26 @@
 // Slots of 8,192 bytes, each with an edit: read, written, and the page made anew from them.
+// They are taken by their numbers: an edit keeps where its points start in all of the slice, which a slot by itself would not tell.
 ghost use Rattle.std.specs.Prelude.{◌≡◌, ℕ, ◌+◌, ◌*◌, ◌≤◌, length};
 ghost use Rattle.codec.specs.Laws.{EditGood};
 ghost use Rattle.codec.specs.Meaning.{edit_of};
 ghost use Rattle.canvas.specs.View.{Room};
 ghost use Rattle.history.specs.Slots.{slot_edit, latest_in, Replayed, Remade, SlotPut};
 
-use canvas::applying::{apply, is_known};
+use canvas::applying::apply;
 use canvas::blanking::make_blank;
 use canvas::state::Canvas;
-use codec::edits::Edit;
+use codec::edits::{Edit, NOTHING};
 use codec::read::edit_at;
-use pixel::runs::{copy_bytes, no_bytes};
+use pixel::runs::copy_bytes;
+use pixel::sizes::Size;
 use tiles::rebuilding::rebuild_all;
 
 // The page that the edits in the first `done` slots make of the blank one.
-fn replay(wide: usize, high: usize, turns: &[u8], done: usize, tiles: &mut [u8]) -> Canvas
-    requires { (Room wide high tiles.old) × (8192 * done ≤ length turns.now) }
-    ensures { Replayed wide high (latest_in turns.now done) tiles.old tiles.new result }
+fn replay(size: Size, turns: &[u8], done: usize, tiles: &mut [u8]) -> Canvas
+    requires { (Room size tiles.old) × (8192 * done ≤ length turns.now) }
+    ensures { Replayed size (latest_in turns.now done) tiles.old tiles.new result }
 {
-    let mut canvas = make_blank(wide, high, tiles);
+    let mut canvas = make_blank(size, tiles);
     for k in 0..done {
         let (edit, _) = edit_at(turns, 8192 * k);
         apply(&mut canvas, tiles, edit, turns);
@@ -27,11 +29,11 @@ fn replay(wide: usize, high: usize, turns: &[u8], done: usize, tiles: &mut [u8])
 }
 
 // The same, and what is seen of it in the tiles, whatever they held.
-pub fn remake(wide: usize, high: usize, turns: &[u8], done: usize, tiles: &mut [u8]) -> Canvas
-    requires { (Room wide high tiles.old) × (8192 * done ≤ length turns.now) }
-    ensures { Remade wide high (latest_in turns.now done) tiles.old tiles.new result }
+pub fn remake(size: Size, turns: &[u8], done: usize, tiles: &mut [u8]) -> Canvas
+    requires { (Room size tiles.old) × (8192 * done ≤ length turns.now) }
+    ensures { Remade size (latest_in turns.now done) tiles.old tiles.new result }
 {
-    let canvas = replay(wide, high, turns, done, tiles);
+    let canvas = replay(size, turns, done, tiles);
     rebuild_all(&canvas, tiles);
     canvas
 }
@@ -43,11 +45,7 @@ pub fn slot_edit(turns: &[u8], k: usize) -> Edit
     ensures good { EditGood turns.now result }
 {
     let (edit, _) = edit_at(turns, 8192 * k);
-    if is_known(edit) {
-        edit
-    } else {
-        Edit::SetMode(255)
-    }
+    if edit.is_built() { edit } else { NOTHING }
 }
 
 // Puts an edit's bytes into slot k.
@@ -55,7 +53,5 @@ pub fn put_slot(turns: &mut [u8], k: usize, bytes: &[u8])
     requires { (8192 * k + length bytes.now ≤ length turns.old) × (length bytes.now ≤ 8192) }
     ensures { SlotPut bytes.now k turns.old turns.new }
 {
-    let _ = no_bytes(turns);
     copy_bytes(turns, 8192 * k, bytes);
-    let _ = no_bytes(turns);
 }

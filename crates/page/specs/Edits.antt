@@ -1,5 +1,5 @@
 -- What a page is, what each edit makes of it, and what is seen of it, pixel by pixel. No tiles, sums, snapshots or deltas: this is the meaning that the editor is held to. Assumes nothing.
-use Rattle.std.specs.Prelude.{ℕ, suc, ◌+◌, ◌-◌, ◌*◌, Bool, cond, ◌&&◌, List, [], ◌∷◌, length, ◌==◌, nat_le, nat_lt, slice_index_or, slice_set}
+use Rattle.std.specs.Prelude.{ℕ, suc, ◌+◌, ◌-◌, ◌*◌, Bool, if◌then◌else◌, ◌&&◌, List, [], ◌∷◌, length, ◌==◌, nat_le, nat_lt, slice_index_or, slice_set}
 use Rattle.pixel.specs.declared.Pixel.{Pixel}
 use Rattle.page.specs.Layers.{Picture, Layer, clear_layer, painted, composite, put_in, without}
 use Rattle.page.specs.Selection.{reached, under_stroke, mask_of}
@@ -67,8 +67,9 @@ on_active p f = with_layer p (painted (active_layer p) (λ i j. pixel_lerp (p.se
 -- the clipboard laid on a picture at x, y, as far as it is not clear there
 abbrev pub pasted : Page → ℕ → ℕ → Picture
 pasted p x y i j =
-    cond ((nat_le x i && nat_le y j) && (nat_lt (i - x) p.wide && nat_lt (j - y) p.high))
-    (cond ((p.clipboard (i - x) (j - y)).alpha == 0) ((active_layer p).pixels i j) (p.clipboard (i - x) (j - y))) ((active_layer p).pixels i j)
+    if (nat_le x i && nat_le y j) && (nat_lt (i - x) p.wide && nat_lt (j - y) p.high)
+    then (if (p.clipboard (i - x) (j - y)).alpha == 0 then (active_layer p).pixels i j else p.clipboard (i - x) (j - y))
+    else (active_layer p).pixels i j
 
 -- the layer below the active one, with that merged into it
 abbrev pub merged_layer : Page → Layer
@@ -77,24 +78,24 @@ merged_layer p =
 
 -- an edit; one that can't be leaves the page
 abbrev pub edited : Page → Edit → Page
-edited p add_layer = cond (nat_lt (length p.layers) 64) (with_layers p (put_in (suc p.active) clear_layer p.layers) (suc p.active)) p
-edited p drop_layer = cond (nat_lt 1 (length p.layers)) (with_layers p (without p.active p.layers) (p.active - 1)) p
-edited p (choose_layer k) = cond (nat_lt k (length p.layers)) (with_layers p p.layers k) p
+edited p add_layer = if nat_lt (length p.layers) 64 then with_layers p (put_in (suc p.active) clear_layer p.layers) (suc p.active) else p
+edited p drop_layer = if nat_lt 1 (length p.layers) then with_layers p (without p.active p.layers) (p.active - 1) else p
+edited p (choose_layer k) = if nat_lt k (length p.layers) then with_layers p p.layers k else p
 edited p raise_layer =
-    cond (nat_lt (suc p.active) (length p.layers)) (with_layers p (put_in (suc p.active) (active_layer p) (without p.active p.layers)) (suc p.active)) p
-edited p (set_mode m) = cond (nat_lt m 6) (with_layer p (record { pixels = (active_layer p).pixels; mode = m; opacity = (active_layer p).opacity; visible = (active_layer p).visible })) p
-edited p (set_opacity a) = cond (nat_lt a 256) (with_layer p (record { pixels = (active_layer p).pixels; mode = (active_layer p).mode; opacity = a; visible = (active_layer p).visible })) p
+    if nat_lt (suc p.active) (length p.layers) then with_layers p (put_in (suc p.active) (active_layer p) (without p.active p.layers)) (suc p.active) else p
+edited p (set_mode m) = if nat_lt m 6 then with_layer p (record { pixels = (active_layer p).pixels; mode = m; opacity = (active_layer p).opacity; visible = (active_layer p).visible }) else p
+edited p (set_opacity a) = if nat_lt a 256 then with_layer p (record { pixels = (active_layer p).pixels; mode = (active_layer p).mode; opacity = a; visible = (active_layer p).visible }) else p
 edited p (set_visible b) = with_layer p (record { pixels = (active_layer p).pixels; mode = (active_layer p).mode; opacity = (active_layer p).opacity; visible = b })
-edited p merge_down = cond (nat_lt 0 p.active) (with_layers p (slice_set (without p.active p.layers) (p.active - 1) (merged_layer p)) (p.active - 1)) p
+edited p merge_down = if nat_lt 0 p.active then with_layers p (slice_set (without p.active p.layers) (p.active - 1) (merged_layer p)) (p.active - 1) else p
 edited p select_all = with_selected p (λ i j. 255)
 edited p (select_rect x y w h) = with_selected p (λ i j. mask_of ((nat_le x i && nat_lt i (x + w)) && (nat_le y j && nat_lt j (y + h))))
 edited p (select_similar n x y) =
-    cond (nat_lt x p.wide && nat_lt y p.high) (with_selected p (λ i j. mask_of (reached (active_layer p).pixels p.wide p.high n x y (p.wide * p.high) i j))) p
+    if nat_lt x p.wide && nat_lt y p.high then with_selected p (λ i j. mask_of (reached (active_layer p).pixels p.wide p.high n x y (p.wide * p.high) i j)) else p
 edited p select_inverse = with_selected p (λ i j. 255 - p.selected i j)
 edited p (fill d) = on_active p (λ i j. d)
-edited p (stroke d r ats) = on_active p (λ i j. cond (under_stroke r ats i j) d ((active_layer p).pixels i j))
+edited p (stroke d r ats) = on_active p (λ i j. if under_stroke r ats i j then d else (active_layer p).pixels i j)
 edited p (apply_filter f) = on_active p (filtered f p.wide p.high (active_layer p).pixels)
-edited p copy = with_clipboard p (λ i j. cond (p.selected i j == 0) clear ((active_layer p).pixels i j))
+edited p copy = with_clipboard p (λ i j. if p.selected i j == 0 then clear else (active_layer p).pixels i j)
 edited p (paste x y) = on_active p (pasted p x y)
 
 abbrev pub blank : ℕ → ℕ → Page

@@ -1,5 +1,5 @@
 -- Filters of a picture of w by h. Assumes nothing.
-use Rattle.std.specs.Prelude.{ℕ, zero, suc, ◌+◌, ◌-◌, ◌*◌, ◌/◌, min, cond, List, ◌==◌, slice_index}
+use Rattle.std.specs.Prelude.{ℕ, zero, suc, ◌+◌, ◌-◌, ◌*◌, ◌/◌, min, if◌then◌else◌, List, ◌==◌, slice_index}
 use Rattle.page.specs.Layers.{Picture}
 use Rattle.pixel.specs.Channels.{apart, at_most_255}
 use Rattle.pixel.specs.Pixels.{by_channels, channel_of}
@@ -37,4 +37,4 @@ filtered invert w h f i j = record { red = 255 - (f i j).red; green = 255 - (f i
 filtered (curve t) w h f i j =
     record { red = slice_index t (f i j).red; green = slice_index t (f i j).green; blue = slice_index t (f i j).blue; alpha = (f i j).alpha }
 filtered (box_blur r) w h f i j = by_channels (λ k. mean (λ a b. channel_of k (f a b)) r w h i j)
-filtered edges w h f i j = by_channels (λ k. cond (k == 3) (f i j).alpha (change (λ a b. channel_of k (f a b)) w h i j))
+filtered edges w h f i j = by_channels (λ k. if k == 3 then (f i j).alpha else change (λ a b. channel_of k (f a b)) w h i j)

@@ -1,5 +1,5 @@
 -- Pictures and layers, and what is seen of layers one on the other. Assumes nothing.
-use Rattle.std.specs.Prelude.{ℕ, zero, suc, Bool, true, cond, List, [], ◌∷◌}
+use Rattle.std.specs.Prelude.{ℕ, zero, suc, Bool, true, if◌then◌else◌, List, [], ◌∷◌}
 use Rattle.pixel.specs.declared.Pixel.{Pixel}
 use Rattle.pixel.specs.Pixels.{clear, pixel_over}
 
@@ -21,7 +21,7 @@ abbrev pub painted : Layer → Picture → Layer
 painted l f = record { pixels = f; mode = l.mode; opacity = l.opacity; visible = l.visible }
 
 abbrev pub layer_over : Layer → ℕ → ℕ → Pixel → Pixel
-layer_over l i j d = cond l.visible (pixel_over l.mode l.opacity (l.pixels i j) d) d
+layer_over l i j d = if l.visible then pixel_over l.mode l.opacity (l.pixels i j) d else d
 
 -- the visible layers one after the other, from below, on a picture
 abbrev pub composite : List Layer → Picture → Picture

@@ -1,5 +1,5 @@
 -- Which pixels a flood and a brush take. Assumes nothing.
-use Rattle.std.specs.Prelude.{ℕ, zero, suc, ◌+◌, ◌*◌, Bool, false, cond, ◌&&◌, ◌||◌, List, [], ◌∷◌, ◌==◌, nat_le, nat_lt}
+use Rattle.std.specs.Prelude.{ℕ, zero, suc, ◌+◌, ◌*◌, Bool, false, if◌then◌else◌, ◌&&◌, ◌||◌, List, [], ◌∷◌, ◌==◌, nat_le, nat_lt}
 use Rattle.page.specs.Layers.{Picture}
 use Rattle.pixel.specs.Channels.{apart}
 use Rattle.pixel.specs.Pixels.{similar}
@@ -33,4 +33,4 @@ under_stroke r [] i j = false
 under_stroke r (a ∷ rest) i j = under_brush r a i j || under_stroke r rest i j
 
 abbrev pub mask_of : Bool → ℕ
-mask_of b = cond b 255 0
+mask_of b = if b then 255 else 0

@@ -1,5 +1,5 @@
 -- Which pixels an edit touches, so that what is seen of others stays. Assumes nothing.
-use Rattle.std.specs.Prelude.{◌≡◌, ℕ, suc, ◌<◌, Bool, true, cond, not, ◌&&◌, length, ◌==◌, nat_lt}
+use Rattle.std.specs.Prelude.{◌≡◌, ℕ, suc, ◌<◌, Bool, true, if◌then◌else◌, not, ◌&&◌, length, ◌==◌, nat_lt}
 use Rattle.page.specs.Edits.{Page, Edit, edited, seen, active_layer, add_layer, drop_layer, choose_layer, raise_layer, set_mode, set_opacity, set_visible, merge_down, select_all, select_rect, select_similar, select_inverse, fill, stroke, apply_filter, copy, paste}
 use Rattle.page.specs.Agree.{Formed}
 
@@ -19,7 +19,7 @@ Alters p (choose_layer k) i j = ⊥
 Alters p raise_layer i j = Rearranges (nat_lt (suc p.active) (length p.layers))
 Alters p (set_mode m) i j = Rearranges (nat_lt m 6 && not (m == (active_layer p).mode))
 Alters p (set_opacity a) i j = Rearranges (nat_lt a 256 && not (a == (active_layer p).opacity))
-Alters p (set_visible b) i j = Rearranges (cond b (not (active_layer p).visible) (active_layer p).visible)
+Alters p (set_visible b) i j = Rearranges (if b then not (active_layer p).visible else (active_layer p).visible)
 Alters p merge_down i j = Rearranges (nat_lt 0 p.active)
 Alters p select_all i j = ⊥
 Alters p (select_rect x y w h) i j = ⊥

@@ -1,27 +1,12 @@
 -- The smallest part around the pixels in which two pictures differ. Assumes nothing.
-use Rattle.std.proofs.Common.{◌≡◌, ℕ, ◌+◌, ◌-◌, ◌*◌, ◌<◌, ◌≤◌, min, max, true, false, eqb, ◌⊎◌, List, sym, refl, ap, ◌∙◌, subst, inl, inr, arith}
-use Rattle.std.proofs.lemmas.Bool.{cases_eq, cases_lt, cases_Bool, cond-true, cond-false, and_parts, and_cases, eqb-true, eqb-false, eq-eqb, ne_eqb}
-use Rattle.pixel.specs.declared.Pixel.{Pixel}
+use Rattle.std.proofs.Common.{◌≡◌, ℕ, ◌+◌, ◌-◌, ◌*◌, ◌<◌, ◌≤◌, min, max, eqb, ◌⊎◌, List, sym, refl, ap, ◌∙◌, subst, inl, inr, arith}
+use Rattle.std.proofs.lemmas.Bool.{cases_eq, cases_lt, cases_Bool, cond-true, cond-false, eq-eqb, ne_eqb}
+use Rattle.std.specs.Prelude.{Option, None, Some, MatchOption}
+use Rattle.std.specs.Option.{unwrap_or}
 use Rattle.pixel.specs.declared.areas.Area.{Area}
 use Rattle.pixel.specs.Areas.{Within, AreaIn, nowhere, whole, first_rows, Touches, Around, join}
 use Rattle.pixel.specs.Bytes.{pixel_at}
-use Rattle.pixel.specs.Pictures.{same_at, Differs, FirstUnlike, LastUnlike, Unlike, RowDiffers}
-use Rattle.pixel.proofs.Steps.{same_pixel}
-
--- what the test of two pixels tells
-pub same_true : (xs : List ℕ) (p q : ℕ) → same_at xs p q ≡ true → pixel_at xs p ≡ pixel_at xs q
-same_true xs p q e =
-    let u = and_parts _ _ e in
-    let v = and_parts _ _ u.0 in
-    let z = and_parts _ _ u.1 in
-    same_pixel (pixel_at xs p) (pixel_at xs q) (eqb-true _ _ v.0) (eqb-true _ _ v.1) (eqb-true _ _ z.0) (eqb-true _ _ z.1)
-
-pub same_false : (xs : List ℕ) (p q : ℕ) → same_at xs p q ≡ false → pixel_at xs p ≡ pixel_at xs q → ⊥
-same_false xs p q f e =
-    elim (and_cases _ _ f) [
-      | inl a ↦ elim (and_cases _ _ a) [ inl b ↦ eqb-false _ _ b (ap (λ (d : Pixel). d.red) e) | inr b ↦ eqb-false _ _ b (ap (λ (d : Pixel). d.green) e) ]
-      | inr a ↦ elim (and_cases _ _ a) [ inl b ↦ eqb-false _ _ b (ap (λ (d : Pixel). d.blue) e) | inr b ↦ eqb-false _ _ b (ap (λ (d : Pixel). d.alpha) e) ]
-    ]
+use Rattle.pixel.specs.Pictures.{Differs, FirstUnlike, LastUnlike, Unlike, RowDiffers}
 
 -- a part with no columns is around nothing
 empty_none : (D : ℕ → ℕ → Type 0) (a : Area) → Around D a → a.wide ≡ 0 → (i j : ℕ) → D i j → ⊥
@@ -191,3 +176,11 @@ module _ (xs : List ℕ) (at by : ℕ) where
         | inr ne ↦ inl ((d.0.0, (omega (arith, d.0.1), omega (arith, d.0.1))), d.1)
       ])
       found here so to.around
+
+-- what a search from the first place on finds
+pub first_found : (xs : List ℕ) (at by n : ℕ) (r : Option ℕ) →
+    MatchOption r ((k : ℕ) → 0 ≤ k → k < n → pixel_at xs (at + 4 * k) ≡ pixel_at xs (by + 4 * k))
+    (λ i. (0 ≤ i) × (i < n) × (pixel_at xs (at + 4 * i) ≡ pixel_at xs (by + 4 * i) → ⊥) × ((k : ℕ) → 0 ≤ k → k < i → pixel_at xs (at + 4 * k) ≡ pixel_at xs (by + 4 * k))) →
+    FirstUnlike xs at by n (unwrap_or r n)
+first_found xs at by n None all = record { few = omega arith; alike = λ k l. all k (omega arith) l; unlike = λ l. absurd (omega arith) }
+first_found xs at by n (Some i) found = record { few = omega (arith, found.1); alike = λ k l. found.3 k (omega arith) l; unlike = λ _. found.2 }

@@ -1,7 +1,7 @@
 -- The step of every loop over pixels and over bytes. Assumes nothing.
 use Rattle.std.proofs.Common.{◌≡◌, ℕ, ◌+◌, ◌*◌, ◌<◌, ◌≤◌, ◌≢◌, ◌⊎◌, List, length, get_or, set, sym, refl, ◌∙◌, subst, inl, inr, arith, length-set, get_or-set_other, get_or-set_same, below_more}
 use Rattle.pixel.specs.declared.Pixel.{Pixel}
-use Rattle.pixel.specs.Bytes.{pixel_at, put_pixel, PixelsTo, BytesTo, Wrote}
+use Rattle.pixel.specs.Bytes.{pixel_at, put_pixel, PixelsTo, PixelsBy, BytesTo, Wrote}
 
 pub length-put : (xs : List ℕ) (at : ℕ) (p : Pixel) → length (put_pixel xs at p) ≡ length xs
 length-put xs at p = simp length-set
@@ -97,3 +97,33 @@ pixel_after f at n xs ys q so h = pixel_kept at (at + 4 * n) xs ys q (pixels_wro
 
 pub pixel_before : (f : ℕ → Pixel) (at n : ℕ) (xs ys : List ℕ) (q : ℕ) → PixelsTo f at n xs ys → q + 4 ≤ at → pixel_at ys q ≡ pixel_at xs q
 pixel_before f at n xs ys q so h = pixel_kept at (at + 4 * n) xs ys q (pixels_wrote f at n xs ys so) (inl h)
+
+-- a step's run: nothing written, and one pixel more
+pub pixels_by_none : (R : Pixel → Pixel → Pixel → Type 0) (from at : ℕ) (xs : List ℕ) → PixelsBy R from at 0 xs xs
+pixels_by_none R from at xs = record { long = refl; written = λ k h. absurd (omega arith); before = λ q h. refl; after = λ q h. refl }
+
+pub pixels_by_wrote : (R : Pixel → Pixel → Pixel → Type 0) (from at n : ℕ) (xs ys : List ℕ) → PixelsBy R from at n xs ys → Wrote at (at + 4 * n) xs ys
+pixels_by_wrote R from at n xs ys so = record { long = so.long; before = so.before; after = so.after }
+
+pub pixels_by_step : (R : Pixel → Pixel → Pixel → Type 0) (from at n k : ℕ) (xs ys zs : List ℕ) (p : Pixel) {a b : Pixel} → k < n → at + 4 * n ≤ length xs → (at + 4 * n ≤ from) ⊎ (from + 4 * n ≤ at) →
+    zs ≡ put_pixel ys (at + 4 * k) p → PixelsBy R from at k xs ys → a ≡ pixel_at ys (from + 4 * k) → b ≡ pixel_at ys (at + 4 * k) → R a b p → PixelsBy R from at (k + 1) xs zs
+pixels_by_step R from at n k xs ys zs p {a} {b} less long apart e so mate here allowed =
+    let wrote = pixels_by_wrote R from at k xs ys so in
+    let out : (from + 4 * k + 4 ≤ at) ⊎ (at + 4 * k ≤ from + 4 * k) = elim apart [ inl l ↦ inr (omega arith) | inr l ↦ inl (omega arith) ] in
+    let from_is : a ≡ pixel_at xs (from + 4 * k) = mate ∙ pixel_kept _ _ xs ys (from + 4 * k) wrote out in
+    let at_is : b ≡ pixel_at xs (at + 4 * k) = here ∙ pixel_kept _ _ xs ys (at + 4 * k) wrote (inr (omega arith)) in
+    let last : R (pixel_at xs (from + 4 * k)) (pixel_at xs (at + 4 * k)) p = subst (λ (c : Pixel). R c (pixel_at xs (at + 4 * k)) p) from_is (subst (λ (c : Pixel). R a c p) at_is allowed) in
+    let ws = put_pixel ys (at + 4 * k) p in
+    subst (λ (us : List ℕ). PixelsBy R from at (k + 1) xs us) (sym e) (record {
+      long = length-put ys (at + 4 * k) p ∙ so.long;
+      written = below_more (λ m. R (pixel_at xs (from + 4 * m)) (pixel_at xs (at + 4 * m)) (pixel_at ws (at + 4 * m))) k
+          (λ m h. subst (R (pixel_at xs (from + 4 * m)) (pixel_at xs (at + 4 * m))) (sym (pixel_put_other ys (at + 4 * k) p (at + 4 * m) (inl (omega arith)))) (so.written m h))
+          (subst (R (pixel_at xs (from + 4 * k)) (pixel_at xs (at + 4 * k))) (sym (pixel_put_same ys (at + 4 * k) p (omega (arith, so.long)))) last);
+      before = λ q h. get_or-put_other ys (at + 4 * k) p q (inl (omega arith)) ∙ so.before q h;
+      after = λ q h. get_or-put_other ys (at + 4 * k) p q (inr (omega arith)) ∙ so.after q (omega arith);
+    })
+
+-- where what is allowed is one pixel, that one is written
+pub pixels_by_one : (R : Pixel → Pixel → Pixel → Type 0) (f : Pixel → Pixel → Pixel) (from at n : ℕ) (xs ys : List ℕ) → ((k : ℕ) → k < n → R (pixel_at xs (from + 4 * k)) (pixel_at xs (at + 4 * k)) (pixel_at ys (at + 4 * k)) → pixel_at ys (at + 4 * k) ≡ f (pixel_at xs (from + 4 * k)) (pixel_at xs (at + 4 * k))) →
+    PixelsBy R from at n xs ys → PixelsTo (λ k. f (pixel_at xs (from + 4 * k)) (pixel_at xs (at + 4 * k))) at n xs ys
+pixels_by_one R f from at n xs ys one so = record { long = so.long; written = λ k h. one k h (so.written k h); before = so.before; after = so.after }

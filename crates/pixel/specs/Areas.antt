@@ -1,5 +1,5 @@
 -- Parts of a page, and the smallest one around some pixels. Assumes nothing.
-use Rattle.std.specs.Prelude.{◌≡◌, ℕ, ◌+◌, ◌-◌, ◌<◌, ◌≤◌, min, max, Bool, cond, ◌&&◌, ◌⊎◌, ◌==◌, nat_le, nat_lt}
+use Rattle.std.specs.Prelude.{◌≡◌, ℕ, ◌+◌, ◌-◌, ◌<◌, ◌≤◌, min, max, Bool, if◌then◌else◌, ◌&&◌, ◌⊎◌, ◌==◌, nat_le, nat_lt}
 use Rattle.pixel.specs.declared.areas.Area.{Area}
 
 -- k is one of the n columns (or rows) from `first` on; the same as a test
@@ -49,6 +49,6 @@ joined_size a n b m = max (a + n) (b + m) - min a b
 -- the smallest part around two
 abbrev pub join : Area → Area → Area
 join a b =
-    cond (a.wide == 0) b
-    (cond (b.wide == 0) a
-    (record { left = min a.left b.left; top = min a.top b.top; wide = joined_size a.left a.wide b.left b.wide; high = joined_size a.top a.high b.top b.high }))
+    if a.wide == 0 then b
+    else if b.wide == 0 then a
+    else (record { left = min a.left b.left; top = min a.top b.top; wide = joined_size a.left a.wide b.left b.wide; high = joined_size a.top a.high b.top b.high })

@@ -16,6 +16,13 @@ pub record PixelsTo (f : ℕ → Pixel) (at n : ℕ) (xs ys : List ℕ) : Type 0
   pub before : (q : ℕ) → q < at → slice_index ys q ≡ slice_index xs q
   pub after : (q : ℕ) → at + 4 * n ≤ q → slice_index ys q ≡ slice_index xs q
 
+-- the same where the pixel that is written at a place is one that R allows of its mate, in the same place of the run from `from` on, and of the one that stood there
+pub record PixelsBy (R : Pixel → Pixel → Pixel → Type 0) (from at n : ℕ) (xs ys : List ℕ) : Type 0 where
+  pub long : length ys ≡ length xs
+  pub written : (k : ℕ) → k < n → R (pixel_at xs (from + 4 * k)) (pixel_at xs (at + 4 * k)) (pixel_at ys (at + 4 * k))
+  pub before : (q : ℕ) → q < at → slice_index ys q ≡ slice_index xs q
+  pub after : (q : ℕ) → at + 4 * n ≤ q → slice_index ys q ≡ slice_index xs q
+
 -- the same of single bytes
 pub record BytesTo (f : ℕ → ℕ) (at n : ℕ) (xs ys : List ℕ) : Type 0 where
   pub long : length ys ≡ length xs

@@ -1,5 +1,5 @@
 -- Pictures in bytes: rows of w pixels one after the other, from `at` on. Assumes nothing.
-use Rattle.std.specs.Prelude.{◌≡◌, ℕ, ◌+◌, ◌-◌, ◌*◌, ◌<◌, ◌≤◌, Bool, cond, ◌&&◌, List, length, ◌==◌, ◌≢◌, slice_index}
+use Rattle.std.specs.Prelude.{◌≡◌, ℕ, ◌+◌, ◌-◌, ◌*◌, ◌<◌, ◌≤◌, if◌then◌else◌, List, length, ◌≢◌, slice_index}
 use Rattle.pixel.specs.declared.Pixel.{Pixel}
 use Rattle.pixel.specs.declared.areas.Area.{Area}
 use Rattle.pixel.specs.Areas.{Within, InArea, inside, Around}
@@ -18,13 +18,7 @@ pub record PictureTo (f : ℕ → ℕ → Pixel) (at w h : ℕ) (xs ys : List �
 
 -- the same where only a part of the picture is written, and is g
 abbrev pub RegionTo : (ℕ → ℕ → Pixel) → ℕ → ℕ → ℕ → Area → List ℕ → List ℕ → Type 0
-RegionTo g at w h a xs ys = PictureTo (λ i j. cond (inside a i j) (g i j) (picture_in xs at w i j)) at w h xs ys
-
--- whether the pixels at two places are the same
-abbrev pub same_at : List ℕ → ℕ → ℕ → Bool
-same_at xs p q =
-    (slice_index xs p == slice_index xs q && slice_index xs (p + 1) == slice_index xs (q + 1))
-    && (slice_index xs (p + 2) == slice_index xs (q + 2) && slice_index xs (p + 3) == slice_index xs (q + 3))
+RegionTo g at w h a xs ys = PictureTo (λ i j. if inside a i j then g i j else picture_in xs at w i j) at w h xs ys
 
 -- two pictures differ at a pixel of a part
 abbrev pub Differs : List ℕ → ℕ → ℕ → ℕ → Area → ℕ → ℕ → Type 0

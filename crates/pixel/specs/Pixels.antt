@@ -1,5 +1,5 @@
 -- Pixels, and how one comes to lie on another. Assumes nothing.
-use Rattle.std.specs.Prelude.{ℕ, ◌+◌, ◌-◌, Bool, cond, ◌&&◌, ◌==◌}
+use Rattle.std.specs.Prelude.{ℕ, ◌+◌, ◌-◌, Bool, if◌then◌else◌, ◌&&◌, ◌==◌}
 use Rattle.pixel.specs.declared.Pixel.{Pixel}
 use Rattle.pixel.specs.Channels.{Channel, share, lerp, mixed, at_most_255, merged_channel, near}
 
@@ -56,7 +56,7 @@ similar n a b = (near n a.red b.red && near n a.green b.green) && (near n a.blue
 
 -- a channel by its number, and a pixel of four channels
 abbrev pub channel_of : ℕ → Pixel → ℕ
-channel_of k d = cond (k == 0) d.red (cond (k == 1) d.green (cond (k == 2) d.blue d.alpha))
+channel_of k d = if k == 0 then d.red else if k == 1 then d.green else if k == 2 then d.blue else d.alpha
 
 abbrev pub by_channels : (ℕ → ℕ) → Pixel
 by_channels f = record { red = f 0; green = f 1; blue = f 2; alpha = f 3 }

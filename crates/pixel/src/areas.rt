@@ -1,12 +1,15 @@
 // Parts of a page, and the smallest one around the pixels in which two pictures differ.
-ghost use Rattle.std.specs.Prelude.{◌≡◌, ℕ, ◌+◌, ◌*◌, ◌<◌, ◌≤◌, ◌⊎◌, length};
+// Rows are taken by their numbers: those of a part lie apart in its picture, and are items of no slice.
+ghost use Rattle.std.specs.Prelude.{◌≡◌, ℕ, ◌+◌, ◌*◌, ◌<◌, ◌≤◌, ◌⊎◌, ◌↔◌, IsTrue, length};
 ghost use Rattle.pixel.specs.Areas.{join, Around, AreaIn};
-ghost use Rattle.pixel.specs.Pictures.{picture_in, RegionTo, Differs, same_at, FirstUnlike, LastUnlike, RowDiffers};
+ghost use Rattle.pixel.specs.Bytes.{pixel_at};
+ghost use Rattle.pixel.specs.Pictures.{picture_in, RegionTo, Differs, FirstUnlike, LastUnlike, RowDiffers};
 
+use crate::pixels::read_pixel;
 use crate::runs::copy_pixels;
 
 // The columns from `left` on and the rows from `top` on; none where it has no width.
-#[derive(Clone, Copy)]
+#[derive(Clone, Copy, Debug, PartialEq, Eq)]
 pub struct Area {
     pub left: usize,
     pub top: usize,
@@ -21,7 +24,7 @@ pub const NOWHERE: Area = Area {
     high: 0,
 };
 
-// A part of one picture, copied into the same place of another.
+// A part of one picture, copied into the same place of another. The pictures may be 0 across or down, as no Size is.
 pub fn copy_region(bytes: &mut [u8], from: usize, to: usize, wide: usize, high: usize, area: Area)
     requires sized { (wide ≤ 4096) × ((high ≤ 4096) × (AreaIn wide high area)) }
     requires lies { (from + 4 * (wide * high) ≤ length bytes.old) × ((to + 4 * (wide * high) ≤ length bytes.old) × ((from + 4 * (wide * high) ≤ to) ⊎ (to + 4 * (wide * high) ≤ from))) }
@@ -36,10 +39,9 @@ pub fn copy_region(bytes: &mut [u8], from: usize, to: usize, wide: usize, high: 
 // Whether the pixels at two places are the same.
 fn is_same(bytes: &[u8], p: usize, q: usize) -> bool
     requires { (p + 4 ≤ length bytes.now) × (q + 4 ≤ length bytes.now) }
-    ensures { result ≡ same_at bytes.now p q }
+    ensures { IsTrue result ↔ (pixel_at bytes.now p ≡ pixel_at bytes.now q) }
 {
-    let first = (bytes[p] == bytes[q]) & (bytes[p + 1] == bytes[q + 1]);
-    first & ((bytes[p + 2] == bytes[q + 2]) & (bytes[p + 3] == bytes[q + 3]))
+    read_pixel(bytes, p) == read_pixel(bytes, q)
 }
 
 // The first of n places in which two rows of pixels differ, or n.
@@ -47,12 +49,9 @@ fn first_unlike(bytes: &[u8], at: usize, by: usize, n: usize) -> usize
     requires { (at + 4 * n ≤ length bytes.now) × (by + 4 * n ≤ length bytes.now) }
     ensures { FirstUnlike bytes.now at by n result }
 {
-    for k in 0..n {
-        if !is_same(bytes, at + 4 * k, by + 4 * k) {
-            return k;
-        }
-    }
-    n
+    (0..n)
+        .find(|k| !is_same(bytes, at + 4 * *k, by + 4 * *k))
+        .unwrap_or(n)
 }
 
 // One past the last, or 0.
@@ -60,6 +59,7 @@ fn last_unlike(bytes: &[u8], at: usize, by: usize, n: usize) -> usize
     requires { (at + 4 * n ≤ length bytes.now) × (by + 4 * n ≤ length bytes.now) }
     ensures { LastUnlike bytes.now at by n result }
 {
+    // A loop, since a search over a range from its end got no proof as a chain.
     for k in (0..n).rev() {
         if !is_same(bytes, at + 4 * k, by + 4 * k) {
             return k + 1;
@@ -107,7 +107,7 @@ fn unlike_in_row(bytes: &[u8], at: usize, by: usize, left: usize, n: usize, j: u
     }
 }
 
-// The smallest part around the pixels of an area in which two pictures differ.
+// The smallest part around the pixels of an area in which two pictures differ. They too may be 0 across or down.
 pub fn differing(bytes: &[u8], at: usize, by: usize, wide: usize, high: usize, area: Area) -> Area
     requires sized { (wide ≤ 4096) × ((high ≤ 4096) × (AreaIn wide high area)) }
     requires lies { (at + 4 * (wide * high) ≤ length bytes.now) × (by + 4 * (wide * high) ≤ length bytes.now) }

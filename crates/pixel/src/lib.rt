@@ -6,9 +6,10 @@ pub mod channels;
 pub mod modes;
 pub mod pixels;
 pub mod runs;
+pub mod sizes;
 
 // A pixel: red, green, blue, and alpha, how much it covers; 0 to 255 each.
-#[derive(Clone, Copy)]
+#[derive(Clone, Copy, Debug, PartialEq, Eq)]
 pub struct Pixel {
     pub red: u8,
     pub green: u8,

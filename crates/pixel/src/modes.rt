@@ -1,8 +1,11 @@
 // Blend modes: how a layer's colours come to lie on what is below.
-ghost use Rattle.std.specs.Prelude.{◌≡◌, ℕ, ◌<◌, MatchOption};
-ghost use Rattle.pixel.specs.Modes.{mode_number};
+ghost use Rattle.std.specs.Prelude.{◌≡◌, ◌++◌, codes, decimal, Some};
+ghost use Rattle.pixel.specs.Modes.{mode_number, Decodes};
 
-#[derive(Clone, Copy)]
+use std::error::Error;
+use std::fmt;
+
+#[derive(Clone, Copy, Debug, PartialEq, Eq)]
 pub enum Mode {
     Normal,
     Multiply,
@@ -12,26 +15,42 @@ pub enum Mode {
     Add,
 }
 
-impl Mode {
-    // The mode of a number; none above 5.
-    pub fn from_byte(byte: u8) -> Option<Mode>
-        ensures { MatchOption result (5 < byte) (λ m. mode_number m ≡ byte) }
-    {
+// A number that no mode has.
+#[derive(Clone, Copy, Debug, PartialEq, Eq)]
+pub struct NoMode(pub u8);
+
+impl TryFrom<u8> for Mode {
+    type Error = NoMode;
+
+    ghost try_from_gives = { Decodes };
+
+    fn try_from(byte: u8) -> Result<Mode, NoMode> {
         match byte {
-            0 => Some(Mode::Normal),
-            1 => Some(Mode::Multiply),
-            2 => Some(Mode::Screen),
-            3 => Some(Mode::Darken),
-            4 => Some(Mode::Lighten),
-            5 => Some(Mode::Add),
-            _ => None,
+            0 => Ok(Mode::Normal),
+            1 => Ok(Mode::Multiply),
+            2 => Ok(Mode::Screen),
+            3 => Ok(Mode::Darken),
+            4 => Ok(Mode::Lighten),
+            5 => Ok(Mode::Add),
+            _ => Err(NoMode(byte)),
         }
     }
+}
 
-    // The number of a mode.
-    pub fn number(self) -> u8
-        ensures { result ≡ mode_number self }
-    {
-        self as u8
+impl From<Mode> for u8 {
+    ghost from_gives = { λ mode byte. byte ≡ mode_number mode };
+
+    fn from(mode: Mode) -> u8 {
+        mode as u8
     }
 }
+
+impl fmt::Display for NoMode {
+    ghost output = { λ e. Some (codes "no blend mode has the number " ++ decimal e.0) };
+
+    fn fmt<W: fmt::Write>(&self, f: &mut fmt::Formatter<W>) -> fmt::Result {
+        write!(f, "no blend mode has the number {}", self.0)
+    }
+}
+
+impl Error for NoMode {}

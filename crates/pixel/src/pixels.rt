@@ -5,19 +5,20 @@ ghost use Rattle.pixel.specs.Modes.{mode_number};
 ghost use Rattle.pixel.specs.Bytes.{pixel_at, put_pixel};
 
 use crate::Pixel;
-use crate::channels::{lerp_of, merge_of, mix_of, share_of};
+use crate::channels::{Channel, lerp_of, merge_of, mix_of, share_of};
 use crate::modes::Mode;
 
 // A pixel of a layer laid on what is seen below it.
 pub fn lay_pixel(mode: Mode, opacity: u8, new: Pixel, old: Pixel) -> Pixel
     ensures { result ≡ pixel_over (mode_number mode) opacity new old }
 {
-    let by = share_of(new.alpha as u32, opacity as u32);
+    let by = share_of(new.alpha.into(), opacity.into());
+    let below = Channel::from(old.alpha);
     Pixel {
-        red: mix_of(mode, by, new.red as u32, old.red as u32) as u8,
-        green: mix_of(mode, by, new.green as u32, old.green as u32) as u8,
-        blue: mix_of(mode, by, new.blue as u32, old.blue as u32) as u8,
-        alpha: (255 - share_of(255 - by, 255 - old.alpha as u32)) as u8,
+        red: mix_of(mode, by, new.red.into(), old.red.into()).into(),
+        green: mix_of(mode, by, new.green.into(), old.green.into()).into(),
+        blue: mix_of(mode, by, new.blue.into(), old.blue.into()).into(),
+        alpha: share_of(by.rest(), below.rest()).rest().into(),
     }
 }
 
@@ -25,12 +26,12 @@ pub fn lay_pixel(mode: Mode, opacity: u8, new: Pixel, old: Pixel) -> Pixel
 pub fn lerp_pixel(by: u8, new: Pixel, old: Pixel) -> Pixel
     ensures { result ≡ pixel_lerp by new old }
 {
-    let by = by as u32;
+    let by = Channel::from(by);
     Pixel {
-        red: lerp_of(by, new.red as u32, old.red as u32) as u8,
-        green: lerp_of(by, new.green as u32, old.green as u32) as u8,
-        blue: lerp_of(by, new.blue as u32, old.blue as u32) as u8,
-        alpha: lerp_of(by, new.alpha as u32, old.alpha as u32) as u8,
+        red: lerp_of(by, new.red.into(), old.red.into()).into(),
+        green: lerp_of(by, new.green.into(), old.green.into()).into(),
+        blue: lerp_of(by, new.blue.into(), old.blue.into()).into(),
+        alpha: lerp_of(by, new.alpha.into(), old.alpha.into()).into(),
     }
 }
 
@@ -45,13 +46,13 @@ pub fn pick_pixel(on: u8, new: Pixel, old: Pixel) -> Pixel
 pub fn merge_pixel(opacity: u8, new: Pixel, old: Pixel) -> Pixel
     ensures { result ≡ merged opacity new old }
 {
-    let above = share_of(new.alpha as u32, opacity as u32);
-    let below = old.alpha as u32;
-    let both = above + share_of(below, 255 - above);
+    let above = share_of(new.alpha.into(), opacity.into());
+    let below = Channel::from(old.alpha);
+    let both = above.word + share_of(below, above.rest()).word;
     Pixel {
-        red: merge_of(new.red as u32, above, old.red as u32, below, both) as u8,
-        green: merge_of(new.green as u32, above, old.green as u32, below, both) as u8,
-        blue: merge_of(new.blue as u32, above, old.blue as u32, below, both) as u8,
+        red: merge_of(new.red.into(), above, old.red.into(), below, both).into(),
+        green: merge_of(new.green.into(), above, old.green.into(), below, both).into(),
+        blue: merge_of(new.blue.into(), above, old.blue.into(), below, both).into(),
         alpha: both.min(255) as u8,
     }
 }

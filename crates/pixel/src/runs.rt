@@ -1,9 +1,11 @@
 // Loops that write a run of pixels or bytes, over the whole lent slice from a base offset on. Every other byte stays.
-ghost use Rattle.std.specs.Prelude.{◌≡◌, ℕ, ◌+◌, ◌*◌, ◌<◌, ◌≤◌, length, ◌==◌, slice_index};
-ghost use Rattle.pixel.specs.Bytes.{pixel_at, PixelsTo, BytesTo};
+// A place and a number stay two parameters: two runs of one length share the number.
+// Pixels are written by their places: the library's as_chunks_mut says nothing of what the whole slice ends as.
+ghost use Rattle.std.specs.Prelude.{◌≡◌, ℕ, ◌+◌, ◌*◌, ◌<◌, ◌≤◌, ◌⊎◌, length, ◌==◌, slice_index};
+ghost use Rattle.pixel.specs.Bytes.{pixel_at, PixelsTo, PixelsBy, BytesTo};
 
 use crate::Pixel;
-use crate::pixels::write_pixel;
+use crate::pixels::{read_pixel, write_pixel};
 
 // n pixels from `at` on, all the same.
 pub fn set_pixels(bytes: &mut [u8], at: usize, n: usize, p: Pixel)
@@ -28,9 +30,7 @@ pub fn set_bytes(bytes: &mut [u8], at: usize, n: usize, b: u8)
     requires { at + n ≤ length bytes.old }
     ensures { BytesTo (λ k. b) at n bytes.old bytes.new }
 {
-    for k in 0..n {
-        bytes[at + k] = b;
-    }
+    bytes[at..at + n].fill(b);
 }
 
 // The bytes of `from`, to `at` on.
@@ -38,9 +38,7 @@ pub fn copy_bytes(bytes: &mut [u8], at: usize, from: &[u8])
     requires { at + length from.now ≤ length bytes.old }
     ensures { BytesTo (λ k. slice_index from.now k) at (length from.now) bytes.old bytes.new }
 {
-    for k in 0..from.len() {
-        bytes[at + k] = from[k];
-    }
+    bytes[at..at + from.len()].copy_from_slice(from);
 }
 
 // Whether there are no bytes. It also says that each is below 256, for proofs about a slice that is only lent on.
@@ -49,4 +47,23 @@ pub fn no_bytes(bytes: &[u8]) -> bool
     ensures small { (k : ℕ) → slice_index bytes.now k < 256 }
 {
     bytes.is_empty()
+}
+
+// Each of the n pixels from `at` on, made by the step from its mate in the run from `from` on and from itself. The runs lie apart.
+pub fn step_pixels<F: Fn(Pixel, Pixel) -> Pixel>(
+    bytes: &mut [u8],
+    from: usize,
+    at: usize,
+    n: usize,
+    step: F,
+)
+    requires callable { F.IsAlwaysCallable step }
+    requires lies { (at + 4 * n ≤ length bytes.old) × ((from + 4 * n ≤ length bytes.old) × ((at + 4 * n ≤ from) ⊎ (from + 4 * n ≤ at))) }
+    ensures { PixelsBy (F.post step) from at n bytes.old bytes.new }
+{
+    for k in 0..n {
+        let mate = read_pixel(bytes, from + 4 * k);
+        let here = read_pixel(bytes, at + 4 * k);
+        write_pixel(bytes, at + 4 * k, step(mate, here));
+    }
 }

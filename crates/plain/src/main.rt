@@ -1,40 +1,38 @@
 // The plain engine as a program: it takes turns from standard input, one to a line, and prints the page.
 #![tactic(auto)]
 
-ghost use Rattle.std.specs.Prelude.{◌≤◌, IfSome};
+ghost use Rattle.std.specs.Prelude.{◌≤◌};
 
-use canvas::layout::area;
 use codec::edits::{Lent, Refusal};
 use reference::shown::lent_for;
-use reference::state::{Engine, Fault};
+use reference::state::Engine;
 use std::io::{Read, Write};
 use std::process::ExitCode;
-use std::{env, fs, io};
+use std::{fs, io};
 use words::call::{Call, SIZE, Source, read_call};
+use words::programs::{Stop, perform};
 use words::saving::save;
-use words::script::{play, refused_text};
+use words::script::play;
 use words::showing::Format;
 
 const USAGE: &str =
     "usage: plain new W H [--save FILE] [--size N]\n       plain open FILE [--save FILE] [--size N]";
 
-// The page that the call begins with, or why it is refused.
-fn begin(rt: &HostRuntime, source: Source, size: usize) -> io::Result<Result<Engine, Fault>>
+// The page that the call begins with.
+fn begin(rt: &HostRuntime, source: Source, size: usize) -> Result<Engine, Stop>
     requires { size ≤ 4096 }
 {
     match source {
-        Source::New { wide, high } => match Engine::begin(rt.alloc(), wide, high) {
-            Err(why) => Ok(Err(Fault::Refused(why))),
-            Ok(engine) => {
-                if area(engine.wide, engine.high) > area(size, size) {
-                    return Ok(Err(Fault::Refused(Refusal::Short(Lent::Tiles))));
-                }
-                Ok(Ok(engine))
+        Source::New { wide, high } => {
+            let engine = Engine::begin(rt.alloc(), wide, high)?;
+            if engine.size.area() > size * size {
+                return Err(Stop::Refused(Refusal::Short(Lent::Tiles)));
             }
-        },
+            Ok(engine)
+        }
         Source::Open(path) => {
             let file = fs::read(rt, path)?;
-            Ok(Engine::open(rt.alloc(), file, lent_for(size)))
+            Ok(Engine::open(rt.alloc(), file, lent_for(size))?)
         }
     }
 }
@@ -49,19 +47,9 @@ fn take_turns(rt: &HostRuntime, engine: &mut Engine) -> io::Result<bool> {
     Ok(all)
 }
 
-// Does what the call asks for; false where something was refused, as it then says.
-fn run(rt: &HostRuntime, call: Call) -> io::Result<bool>
-    requires { IfSome call.size (λ n. n ≤ 4096) }
-{
-    let mut engine = match begin(rt, call.source, call.size.unwrap_or(SIZE))? {
-        Ok(engine) => engine,
-        Err(Fault::NoMemory) => return Err(io::Error::from(io::ErrorKind::OutOfMemory)),
-        Err(Fault::Refused(why)) => {
-            let text = refused_text(rt.alloc(), why)?;
-            println!(rt; "{text}")?;
-            return Ok(false);
-        }
-    };
+// Does what the call asks for; false where a line was not taken, as it then says.
+fn run(rt: &HostRuntime, call: Call) -> Result<bool, Stop> {
+    let mut engine = begin(rt, call.source, call.size.unwrap_or(SIZE))?;
     let all = take_turns(rt, &mut engine)?;
     let text = engine.print(rt.alloc(), Format::Text)?;
     rt.stdout().write_all(text.as_slice())?;
@@ -72,20 +60,7 @@ fn run(rt: &HostRuntime, call: Call) -> io::Result<bool>
 }
 
 fn main(rt: HostRuntime) -> io::Result<ExitCode> {
-    let mut args = Vec::new(rt.alloc());
-    for arg in env::args(&rt)?.skip(1) {
-        args.push(arg)?;
-    }
-    let Some(call) = read_call(args.as_slice()) else {
-        eprintln!(rt; "{USAGE}")?;
-        return Ok(ExitCode::FAILURE);
-    };
-    match run(&rt, call) {
-        Ok(true) => Ok(ExitCode::SUCCESS),
-        Ok(false) => Ok(ExitCode::FAILURE),
-        Err(fault) => {
-            eprintln!(rt; "plain: {fault}")?;
-            Ok(ExitCode::FAILURE)
-        }
-    }
+    perform(&rt, "plain", USAGE, |args| {
+        read_call(args).map(|call| run(&rt, call))
+    })
 }

@@ -4,4 +4,5 @@ mod Listing
 mod Adding
 mod Opening
 mod Keeping
+mod Turned
 mod Texts

@@ -1,8 +1,9 @@
 -- Lists of edits: one put in behind the first d, bytes that grow, and the history that a list is. Assumes nothing.
-use Rattle.std.proofs.Common.{◌≡◌, ℕ, zero, suc, ◌+◌, ◌-◌, ◌<◌, ◌≤◌, true, List, [], ◌∷◌, ◌++◌, length, get_or, take, drop, sym, refl, ap, ◌∙◌, subst, ap₂, add-one, arith, length-append, drop-cons}
-use Rattle.std.specs.List.{AllByRecursion}
-use Rattle.std.proofs.ByRecursion.{All-from_get_or, All-get_or, All-weaker, All-take, All-drop, All-push}
+use Rattle.std.proofs.Common.{◌≡◌, ℕ, zero, suc, ◌+◌, ◌-◌, ◌<◌, ◌≤◌, true, List, [], ◌∷◌, ◌++◌, length, get_or, take, drop, sym, refl, ap, ◌∙◌, subst, subst₂, ap₂, add-one, min, inl, inr, arith, length-append, drop-cons}
+use Rattle.std.specs.List.{All}
+use Rattle.std.proofs.lemmas.List.Elements.{All-head, All-tail, All-weaker, All-take, All-drop, All-push}
 use Rattle.std.proofs.lemmas.List.{map_more, map-append, take_all, drop_all, length-take-le}
+use Rattle.std.proofs.lemmas.Bool.{cases_order}
 use Rattle.page.specs.Edits as page
 use Rattle.page.specs.History.{History, in_order, turned, undone_once, redone_once, does, undo, redo}
 use Rattle.page.specs.Fits.{Fits, kind}
@@ -10,11 +11,8 @@ use Rattle.codec.specs.declared.edits.Edit.{Edit}
 use Rattle.codec.specs.declared.edits.Edit.TheVariants.{AddLayer}
 use Rattle.codec.specs.Meaning.{edit_of}
 use Rattle.codec.specs.Kinds.{built}
-use Rattle.codec.specs.Reach.{reach}
 use Rattle.codec.proofs.Growing.{edit_grows}
-use Rattle.canvas.specs.Applying.{Built}
-use Rattle.reference.proofs.Fitting.{known}
-use Rattle.reference.specs.Lists.{meanings, AllBuilt, AllReach, AllFits, history_of}
+use Rattle.reference.specs.Lists.{meanings, Good, history_of}
 
 -- an edit put in behind the first d, and what came after cut off
 behind : (xs : List Edit) (n : ℕ) (x : Edit) → n ≤ length xs → take (suc n) (take n xs ++ x ∷ drop n xs) ≡ take n xs ++ x ∷ []
@@ -36,62 +34,58 @@ done_more bs es k l = ap (λ ms. in_order ms []) (map_more (edit_of bs) es k Add
 undone_more : (bs : List ℕ) (es : List Edit) (k : ℕ) → k < length es → (history_of bs es k).undone ≡ edit_of bs (get_or es k AddLayer) ∷ (history_of bs es (k + 1)).undone
 undone_more bs es k l = ap (meanings bs) (drop-cons es k AddLayer l) ∙ ap (λ n. edit_of bs (get_or es k AddLayer) ∷ meanings bs (drop n es)) (sym (add-one k))
 
-abbrev both : List page.Edit → List page.Edit → History
+abbrev pub both : List page.Edit → List page.Edit → History
 both ds us = record { done = ds; undone = us }
 
-pub redone : (bs : List ℕ) (es : List Edit) (d : ℕ) → d < length es → history_of bs es (d + 1) ≡ turned (history_of bs es d) redo
+redone : (bs : List ℕ) (es : List Edit) (d : ℕ) → d < length es → history_of bs es (d + 1) ≡ turned (history_of bs es d) redo
 redone bs es d l =
     ap (λ ds. both ds (history_of bs es (d + 1)).undone) (done_more bs es d l) ∙ sym (ap (λ us. redone_once us (history_of bs es d)) (undone_more bs es d l))
 
-pub none_redone : (bs : List ℕ) (es : List Edit) (d : ℕ) → length es ≤ d → history_of bs es d ≡ turned (history_of bs es d) redo
+none_redone : (bs : List ℕ) (es : List Edit) (d : ℕ) → length es ≤ d → history_of bs es d ≡ turned (history_of bs es d) redo
 none_redone bs es d l = sym (ap (λ us. redone_once (meanings bs us) (history_of bs es d)) (drop_all d es l))
+
+-- redo, as far as there are edits
+pub redone_most : (bs : List ℕ) (es : List Edit) (d : ℕ) → d ≤ length es → history_of bs es (min (length es) (d + 1)) ≡ turned (history_of bs es d) redo
+redone_most bs es d l =
+    elim (cases_order d (length es)) [
+      | inl e ↦ let all : min (length es) (d + 1) ≡ d = omega (arith, e) in ap (history_of bs es) all ∙ none_redone bs es d (omega (arith, e))
+      | inr (inl k) ↦ let next : min (length es) (d + 1) ≡ d + 1 = omega (arith, k) in ap (history_of bs es) next ∙ redone bs es d k
+      | inr (inr k) ↦ absurd (omega (arith, k, l))
+    ]
 
 undone_from : (bs : List ℕ) (es : List Edit) (k : ℕ) → k < length es → history_of bs es k ≡ turned (history_of bs es (k + 1)) undo
 undone_from bs es k l =
     ap (both (history_of bs es k).done) (undone_more bs es k l) ∙ sym (ap (λ ds. undone_once ds (history_of bs es (k + 1))) (done_more bs es k l))
 
-pub undone : (bs : List ℕ) (es : List Edit) (d : ℕ) → 0 < d → d ≤ length es → history_of bs es (d - 1) ≡ turned (history_of bs es d) undo
-undone bs es d some l =
-    let e : d - 1 + 1 ≡ d = omega arith in
-    subst (λ (n : ℕ). history_of bs es (d - 1) ≡ turned (history_of bs es n) undo) e (undone_from bs es (d - 1) (omega arith))
+pub undone : (bs : List ℕ) (es : List Edit) (d : ℕ) → d ≤ length es → history_of bs es (d - 1) ≡ turned (history_of bs es d) undo
+undone bs es zero l = refl
+undone bs es (suc k) l =
+    let before : suc k - 1 ≡ k = omega arith in
+    let here : suc k ≡ k + 1 = omega arith in
+    subst₂ (λ m n. history_of bs es m ≡ turned (history_of bs es n) undo) (sym before) (sym here) (undone_from bs es k (omega arith))
 
 -- BYTES THAT GROW: the edits in them mean the same
-abbrev pub Good : List ℕ → Edit → Type 0
-Good bs e = (reach e ≤ length bs) × Built bs e × Fits (edit_of bs e)
-
-pub all_good : (bs : List ℕ) (es : List Edit) → AllBuilt bs es → AllReach bs es → AllFits bs es → AllByRecursion (Good bs) es
-all_good bs es b r f = All-from_get_or (Good bs) es AddLayer (λ k l. (r k AddLayer l, b k AddLayer l, known (edit_of bs (get_or es k AddLayer)) (f k AddLayer l)))
-
-pub good_built : (bs : List ℕ) (es : List Edit) → AllByRecursion (Good bs) es → AllBuilt bs es
-good_built bs es g k d l = (All-get_or (Good bs) es k d l g).1
-
-pub good_reach : (bs : List ℕ) (es : List Edit) → AllByRecursion (Good bs) es → AllReach bs es
-good_reach bs es g k d l = (All-get_or (Good bs) es k d l g).0
-
-pub good_fits : (bs : List ℕ) (es : List Edit) → AllByRecursion (Good bs) es → AllFits bs es
-good_fits bs es g k d l = ∣ (All-get_or (Good bs) es k d l g).2 ∣₁
-
 good_grows : (bs more : List ℕ) (e : Edit) → Good bs e → Good (bs ++ more) e
 good_grows bs more e g =
-    let same = sym (edit_grows bs more e g.0) in
-    (omega (arith, g.0, length-append bs more), subst (λ (m : page.Edit). built (kind m) ≡ true) same g.1, subst Fits same g.2)
+    let same = sym (edit_grows bs more e g.1) in
+    (subst (λ (m : page.Edit). built (kind m) ≡ true) same g.0, omega (arith, g.1, length-append bs more), subst (λ (m : page.Edit). ∥ Fits m ∥₁) same g.2)
 
-pub all_grow : (bs more : List ℕ) (es : List Edit) → AllByRecursion (Good bs) es → AllByRecursion (Good (bs ++ more)) es
+pub all_grow : (bs more : List ℕ) (es : List Edit) → All (Good bs) es → All (Good (bs ++ more)) es
 all_grow bs more es g = All-weaker (Good bs) (Good (bs ++ more)) (good_grows bs more) es g
 
-meanings_grow : (bs more : List ℕ) (es : List Edit) → AllByRecursion (Good bs) es → meanings (bs ++ more) es ≡ meanings bs es
+meanings_grow : (bs more : List ℕ) (es : List Edit) → All (Good bs) es → meanings (bs ++ more) es ≡ meanings bs es
 meanings_grow bs more [] g = refl
-meanings_grow bs more (e ∷ es) g = ap₂ (λ m ms. m ∷ ms) (edit_grows bs more e g.0.0) (meanings_grow bs more es g.1)
+meanings_grow bs more (e ∷ es) g = ap₂ (λ m ms. m ∷ ms) (edit_grows bs more e (All-head (Good bs) e es g).1) (meanings_grow bs more es (All-tail (Good bs) e es g))
 
-pub history_grows : (bs more : List ℕ) (es : List Edit) (d : ℕ) → AllByRecursion (Good bs) es → history_of (bs ++ more) es d ≡ history_of bs es d
+pub history_grows : (bs more : List ℕ) (es : List Edit) (d : ℕ) → All (Good bs) es → history_of (bs ++ more) es d ≡ history_of bs es d
 history_grows bs more es d g =
     ap₂ (λ ds us. both (in_order ds []) us) (meanings_grow bs more (take d es) (All-take (Good bs) d es g)) (meanings_grow bs more (drop d es) (All-drop (Good bs) d es g))
 
 -- one edit behind the first d, and none undone
-pub all_put : (bs more : List ℕ) (es : List Edit) (d : ℕ) (e : Edit) → AllByRecursion (Good bs) es → Good (bs ++ more) e → AllByRecursion (Good (bs ++ more)) (take d es ++ e ∷ [])
+pub all_put : (bs more : List ℕ) (es : List Edit) (d : ℕ) (e : Edit) → All (Good bs) es → Good (bs ++ more) e → All (Good (bs ++ more)) (take d es ++ e ∷ [])
 all_put bs more es d e g n = All-push (Good (bs ++ more)) (take d es) e (all_grow bs more (take d es) (All-take (Good bs) d es g)) n
 
-pub history_put : (bs more : List ℕ) (es : List Edit) (d : ℕ) (e : Edit) (m : page.Edit) → d ≤ length es → AllByRecursion (Good bs) es → edit_of (bs ++ more) e ≡ m →
+pub history_put : (bs more : List ℕ) (es : List Edit) (d : ℕ) (e : Edit) (m : page.Edit) → d ≤ length es → All (Good bs) es → edit_of (bs ++ more) e ≡ m →
     history_of (bs ++ more) (take d es ++ e ∷ []) (d + 1) ≡ turned (history_of bs es d) (does m)
 history_put bs more es d e m l g is =
     let new = take d es ++ e ∷ [] in

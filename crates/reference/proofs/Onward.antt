@@ -1,6 +1,7 @@
 -- Edits one after the other. Assumes nothing.
 use Rattle.std.proofs.Common.{◌≡◌, ℕ, ◌+◌, ◌<◌, List, [], ◌∷◌, ◌++◌, length, get_or, take, sym, refl, ap, ◌∙◌, subst}
 use Rattle.std.proofs.lemmas.List.{map_more}
+use Rattle.pixel.specs.declared.sizes.Size.{Size}
 use Rattle.page.specs.Edits as page
 use Rattle.page.specs.Edits.{Page, edited, after, blank}
 use Rattle.page.specs.Agree.{Agree}
@@ -24,6 +25,6 @@ one_more p q r bs es k d l a b =
     subst (Agree r) (sym (ap (after p) (map_more (edit_of bs) es k d l) ∙ after_push p (meanings bs (take k es)) e)) (agree_trans _ _ _ b (edits_agree _ _ e a))
 
 -- a page that agrees with what the edits make shows it
-pub replayed : (w h : ℕ) (es : List page.Edit) (xs ys : List ℕ) (s : Canvas) → s.wide ≡ w → s.high ≡ h → Agree (view s ys) (after (blank w h) es) → length ys ≡ length xs → Replayed w h es xs ys s
-replayed w h es xs ys s e f a l =
-    record { wide_is = e; high_is = f; agrees = a; long = l; shows = λ i j iw jh. seen_agree (view s ys) (after (blank w h) es) i j a (subst (λ (m : ℕ). i < m) (sym e) iw) (subst (λ (m : ℕ). j < m) (sym f) jh) }
+pub replayed : (z : Size) (es : List page.Edit) (xs ys : List ℕ) (s : Canvas) → s.size ≡ z → Agree (view s ys) (after (blank z.wide z.high) es) → length ys ≡ length xs → Replayed z es xs ys s
+replayed z es xs ys s e a l =
+    record { size_is = e; agrees = a; long = l; shows = λ i j iw jh. seen_agree (view s ys) (after (blank z.wide z.high) es) i j a (subst (λ (y : Size). i < y.wide) (sym e) iw) (subst (λ (y : Size). j < y.high) (sym e) jh) }

@@ -1,6 +1,7 @@
 -- The text of an engine's edits, piece after piece; and what is printed of its page. Assumes nothing.
 use Rattle.std.proofs.Common.{◌≡◌, ℕ, ◌*◌, ◌<◌, ◌≤◌, ◌&&◌, List, [], ◌++◌, length, take, drop, Ok, vec_items, codes, sym, ap, ◌∙◌, ap₂, arith}
 use Rattle.std.specs.List.{flat_map}
+use Rattle.pixel.specs.declared.sizes.Size.{Size}
 use Rattle.codec.specs.declared.edits.Edit.{Edit}
 use Rattle.std.proofs.lemmas.Bool.{lt-ltb, le-leb, cond-true}
 use Rattle.page.specs.Edits.{seen}
@@ -25,13 +26,13 @@ text_pieces s none one two last bs ds us n b d u p q r =
 -- the page that was made anew is printed as the page of the history
 pub prints_page :
     (s : Engine) (format : Format) (xs ys zs : List ℕ) (c : Canvas) → Remade s xs ys (Ok c) → zs ≡ ys →
-    printed format s.wide s.high (λ x y. or_white (seen_at c zs x y)) ≡ printed format s.wide s.high (seen (page_of s))
-prints_page s format xs ys zs c m same = printed_same format s.wide s.high (λ x y. or_white (seen_at c zs x y)) (seen (page_of s)) at
+    printed format s.size.wide s.size.high (λ x y. or_white (seen_at c zs x y)) ≡ printed format s.size.wide s.size.high (seen (page_of s))
+prints_page s format xs ys zs c m same = printed_same format s.size.wide s.size.high (λ x y. or_white (seen_at c zs x y)) (seen (page_of s)) at
   where
-    room : 544 * (c.wide * c.high) ≤ length ys
-    room = omega (arith, m.0, m.1.long, ap₂ ◌*◌ m.1.wide_is m.1.high_is)
+    room : 544 * (c.size.wide * c.size.high) ≤ length ys
+    room = omega (arith, m.0, m.1.long, ap (λ (z : Size). z.wide * z.high) m.1.size_is)
 
-    at : (x y : ℕ) → x < s.wide → y < s.high → or_white (seen_at c zs x y) ≡ seen (page_of s) x y
+    at : (x y : ℕ) → x < s.size.wide → y < s.size.high → or_white (seen_at c zs x y) ≡ seen (page_of s) x y
     at x y k l =
-        let inside = ap₂ ◌&&◌ (ap₂ ◌&&◌ (lt-ltb x c.wide (omega (arith, m.1.wide_is))) (lt-ltb y c.high (omega (arith, m.1.high_is)))) (le-leb (544 * (c.wide * c.high)) (length ys) room) in
+        let inside = ap₂ ◌&&◌ (ap₂ ◌&&◌ (lt-ltb x c.size.wide (omega (arith, ap (λ (z : Size). z.wide) m.1.size_is))) (lt-ltb y c.size.high (omega (arith, ap (λ (z : Size). z.high) m.1.size_is)))) (le-leb (544 * (c.size.wide * c.size.high)) (length ys) room) in
         ap (λ l. or_white (seen_at c l x y)) same ∙ (ap or_white (cond-true _ _ _ inside) ∙ m.1.shows x y k l)

@@ -1,5 +1,5 @@
 -- Lists of edits over the bytes that hold their points and numbers, and the history that such a list is. Assumes nothing.
-use Rattle.std.specs.Prelude.{◌≡◌, ℕ, ◌<◌, ◌≤◌, true, List, [], map, length, take, drop, slice_index_or}
+use Rattle.std.specs.Prelude.{◌≡◌, ℕ, ◌≤◌, true, List, [], map, length, take, drop}
 use Rattle.page.specs.Edits as page
 use Rattle.page.specs.History.{History, in_order}
 use Rattle.page.specs.Fits.{Fits, kind}
@@ -12,16 +12,10 @@ use Rattle.codec.specs.Kinds.{built}
 abbrev pub meanings : List ℕ → List Edit → List page.Edit
 meanings bs es = map (edit_of bs) es
 
--- each edit of a list is of a kind that there is; its points or numbers lie in the bytes
-abbrev pub AllBuilt : List ℕ → List Edit → Type 0
-AllBuilt bs es = (k : ℕ) (d : Edit) → k < length es → built (kind (edit_of bs (slice_index_or es k d))) ≡ true
-
-abbrev pub AllReach : List ℕ → List Edit → Type 0
-AllReach bs es = (k : ℕ) (d : Edit) → k < length es → reach (slice_index_or es k d) ≤ length bs
-
+-- an edit of a kind that there is, whose points or numbers lie in the bytes;
 -- and bytes can carry it (between the bars, which make it a fact with one proof)
-abbrev pub AllFits : List ℕ → List Edit → Type 0
-AllFits bs es = (k : ℕ) (d : Edit) → k < length es → ∥ Fits (edit_of bs (slice_index_or es k d)) ∥₁
+abbrev pub Good : List ℕ → Edit → Type 0
+Good bs e = (built (kind (edit_of bs e)) ≡ true) × (reach e ≤ length bs) × ∥ Fits (edit_of bs e) ∥₁
 
 -- the history: the first d edits are done, the rest undone
 abbrev pub history_of : List ℕ → List Edit → ℕ → History

@@ -1,5 +1,5 @@
 -- What programs see of the plain engine: answers to turns, pixels, and edits in words. Assumes nothing.
-use Rattle.std.specs.Prelude.{ℕ, ◌*◌, List, [], ◌∷◌, ◌++◌, Some, None, Ok, Err, codes, Option, Result}
+use Rattle.std.specs.Prelude.{ℕ, ◌*◌, List, [], ◌∷◌, ◌++◌, Some, None, codes, Option}
 use Rattle.std.specs.List.{flat_map}
 use Rattle.pixel.specs.declared.Pixel.{Pixel}
 use Rattle.pixel.specs.Pixels.{white}
@@ -7,19 +7,9 @@ use Rattle.page.specs.Edits as page
 use Rattle.page.specs.History.{in_order}
 use Rattle.codec.specs.declared.file.Lengths.{Lengths}
 use Rattle.codec.specs.Written.{written}
-use Rattle.words.specs.declared.taking.Outcome.{Outcome}
-use Rattle.words.specs.declared.taking.Outcome.TheVariants as outcome
 use Rattle.words.specs.Lines.{worded}
 use Rattle.reference.specs.declared.state.Engine.{Engine}
-use Rattle.reference.specs.declared.state.Fault.{Fault}
-use Rattle.reference.specs.declared.state.Fault.TheVariants.{Refused, NoMemory}
 use Rattle.reference.specs.Turning.{history}
-
--- the engine's answer that an outcome stands for
-abbrev pub answer : Outcome → Result (Unit {0}) Fault
-answer outcome.Taken = Ok tt
-answer (outcome.Refused f) = Err (Refused f)
-answer outcome.NoMemory = Err NoMemory
 
 -- beyond the page all is white
 abbrev pub or_white : Option Pixel → Pixel

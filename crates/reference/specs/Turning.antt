@@ -1,19 +1,18 @@
 -- What a turn makes of the plain engine. Assumes nothing.
-use Rattle.std.specs.Prelude.{◌≡◌, ℕ, ◌+◌, ◌*◌, ◌<◌, ◌≤◌, Bool, true, false, cond, List, [], length, Some, None, Ok, Err, vec_items, Option, Result, nat_le, nat_lt}
-use Rattle.page.specs.Edits as page
+use Rattle.std.specs.Prelude.{◌≡◌, ℕ, ◌+◌, ◌*◌, ◌<◌, if◌then◌else◌, List, [], length, Some, None, Ok, Err, vec_items, Option, Result, nat_lt}
 use Rattle.page.specs.Edits.{Page, blank, after}
-use Rattle.page.specs.History.{History, Turn, does, turned, in_order, empty}
+use Rattle.page.specs.History.{History, Turn, turned, in_order, empty}
 use Rattle.codec.specs.declared.edits.Turn.{Turn as Read}
 use Rattle.codec.specs.declared.edits.Lent.TheVariants.{Tiles}
 use Rattle.codec.specs.declared.edits.Refusal.{Refusal}
-use Rattle.codec.specs.declared.edits.Refusal.TheVariants.{NoSize, TooMany, Short}
+use Rattle.codec.specs.declared.edits.Refusal.TheVariants.{TooMany, Short}
 use Rattle.codec.specs.Meaning.{turn_of}
-use Rattle.codec.specs.Laws.{EditBytes}
 use Rattle.codec.specs.Read.{read_turn}
 use Rattle.canvas.specs.declared.state.Canvas.{Canvas}
+use Rattle.canvas.specs.View.{Room}
 use Rattle.reference.specs.declared.state.Engine.{Engine}
-use Rattle.reference.specs.declared.state.Fault.{Fault}
-use Rattle.reference.specs.declared.state.Fault.TheVariants.{Refused, NoMemory}
+use Rattle.words.specs.declared.taking.Fault.{Fault}
+use Rattle.words.specs.declared.taking.Fault.TheVariants.{Refused, NoMemory}
 use Rattle.reference.specs.Lists.{history_of}
 use Rattle.reference.specs.Making.{Replayed}
 
@@ -22,20 +21,16 @@ abbrev pub history : Engine → History
 history s = history_of (vec_items s.bytes) (vec_items s.edits) s.done
 
 abbrev pub page_of : Engine → Page
-page_of s = after (blank s.wide s.high) (in_order (history s).done [])
+page_of s = after (blank s.size.wide s.size.high) (in_order (history s).done [])
 
 -- what is against any turn at its first byte: there are at most 65,536
 abbrev pub against : ℕ → Option Refusal
-against taken = cond (nat_lt taken 65536) None (Some (TooMany 0))
-
--- a size that is refused, as a file's would be
-abbrev pub size_refusal : ℕ → ℕ → Option Refusal
-size_refusal w h = cond (nat_le 1 w) (cond (nat_le w 4096) (cond (nat_le 1 h) (cond (nat_le h 4096) None (Some (NoSize 6))) (Some (NoSize 6))) (Some (NoSize 4))) (Some (NoSize 4))
+against taken = if nat_lt taken 65536 then None else Some (TooMany 0)
 
 -- a new engine: the blank page, with an empty history
 pub record Begun (w h : ℕ) (s : Engine) : Type 0 where
-  pub wide_is : s.wide ≡ w
-  pub high_is : s.high ≡ h
+  pub wide_is : s.size.wide ≡ w
+  pub high_is : s.size.high ≡ h
   pub none_taken : s.taken ≡ 0
   pub no_history : history s ≡ empty
 
@@ -47,27 +42,15 @@ Begins (Some why) w h (Err f) = f ≡ why
 
 -- the history is another, and nothing else is
 pub record Steps (s : Engine) (h : History) (s' : Engine) : Type 0 where
-  pub same_wide : s'.wide ≡ s.wide
-  pub same_high : s'.high ≡ s.high
+  pub same_size : s'.size ≡ s.size
   pub same_taken : s'.taken ≡ s.taken
   pub history_is : history s' ≡ h
 
 -- the history is the old one with this turn
 pub record Moved (s : Engine) (t : Turn) (s' : Engine) : Type 0 where
-  pub same_wide : s'.wide ≡ s.wide
-  pub same_high : s'.high ≡ s.high
+  pub same_size : s'.size ≡ s.size
   pub one_taken : s'.taken ≡ s.taken + 1
   pub history_next : history s' ≡ turned (history s) t
-
--- the edit that the bytes are is done; or, without memory, nothing is
-abbrev pub Adds : List ℕ → Engine → Engine → Bool → Type 0
-Adds bs s s' true = (e : page.Edit) → EditBytes bs e → Moved s (does e) s'
-Adds bs s s' false = Steps s (history s) s'
-
--- what a turn comes to, with memory for it and without
-abbrev pub Stepped : Turn → Engine → Engine → Bool → Type 0
-Stepped t s s' true = Moved s t s'
-Stepped t s s' false = Steps s (history s) s'
 
 -- a turn that is refused leaves the engine as it was; one that finds no memory leaves what it means
 abbrev pub TurnedBy : List ℕ → Result Read Refusal → Engine → Engine → Result (Unit {0}) Fault → Type 0
@@ -83,5 +66,5 @@ Turns bs s s' r = TurnedBy bs (read_turn bs (against s.taken)) s s' r
 
 -- everything made anew, or too few bytes for it
 abbrev pub Remade : Engine → List ℕ → List ℕ → Result Canvas Refusal → Type 0
-Remade s xs ys (Ok c) = (544 * (s.wide * s.high) ≤ length xs) × Replayed s.wide s.high (in_order (history s).done []) xs ys c
-Remade s xs ys (Err f) = (length xs < 544 * (s.wide * s.high)) × (f ≡ Short Tiles) × (ys ≡ xs)
+Remade s xs ys (Ok c) = Room s.size xs × Replayed s.size (in_order (history s).done []) xs ys c
+Remade s xs ys (Err f) = (length xs < 544 * (s.size.wide * s.size.high)) × (f ≡ Short Tiles) × (ys ≡ xs)

@@ -4,12 +4,15 @@ ghost use Rattle.codec.specs.declared.file.Lengths.{Lengths as Lent};
 ghost use Rattle.codec.specs.FileLaws.{FileTaken};
 ghost use Rattle.reference.specs.Filing.{Listed, OpenedBy, Opens, engine_file};
 
-use crate::state::{Engine, Fault};
+use crate::state::Engine;
 use codec::edits::Edit;
 use codec::file::{File, Lengths, read_file};
+use codec::listing::Listing;
 use codec::read::edit_at;
 use codec::write::append_file;
+use pixel::sizes::Size;
 use std::alloc::{AllocError, Global};
+use words::taking::Fault;
 
 // The first `count` edits of a file, which stand from its byte 16 on.
 fn edits_in(heap: Global, bytes: &[u8], count: usize) -> Result<Vec<Edit>, AllocError>
@@ -17,7 +20,7 @@ fn edits_in(heap: Global, bytes: &[u8], count: usize) -> Result<Vec<Edit>, Alloc
 {
     let mut edits = Vec::new(heap);
     let mut at = 16;
-    while edits.len() < count {
+    for _ in 0..count {
         let (edit, end) = edit_at(bytes, at);
         edits.push(edit)?;
         at = end;
@@ -31,28 +34,27 @@ impl Engine {
         requires { (lent : Lent) × FileTaken file.items lent head }
         ensures { OpenedBy file.items (Ok head) result }
     {
+        let size = Size {
+            wide: head.width as usize,
+            high: head.height as usize,
+        };
         let count = head.done as usize + head.undone as usize;
-        match edits_in(heap, file.as_slice(), count) {
-            Err(_) => Err(Fault::NoMemory),
-            Ok(edits) => Ok(Engine {
-                wide: head.width as usize,
-                high: head.height as usize,
-                bytes: file,
-                edits,
-                done: head.done as usize,
-                taken: count,
-            }),
-        }
+        let edits = edits_in(heap, file.as_slice(), count)?;
+        Ok(Engine {
+            size,
+            bytes: file,
+            edits,
+            done: head.done as usize,
+            taken: count,
+        })
     }
 
     // The page of a file, whose bytes it keeps; `lent` says how long the slices are that it is read for.
     pub fn open(heap: Global, file: Vec<u8>, lent: Lengths) -> Result<Engine, Fault>
         ensures { Opens file.items lent result }
     {
-        match read_file(file.as_slice(), lent) {
-            Err(why) => Err(Fault::Refused(why)),
-            Ok(head) => Engine::of_file(heap, file, head),
-        }
+        let head = read_file(file.as_slice(), lent)?;
+        Engine::of_file(heap, file, head)
     }
 
     // The file of the page: its size, the done edits and the undone ones.
@@ -60,14 +62,14 @@ impl Engine {
         ensures { IfOk result (λ v. v.items ≡ engine_file self.now) }
     {
         let mut out = Vec::new(heap);
-        append_file(
-            &mut out,
-            self.wide as u16,
-            self.high as u16,
-            self.edits.as_slice(),
-            self.done,
-            self.bytes.as_slice(),
-        )?;
+        let listing = Listing {
+            width: self.size.wide as u16,
+            height: self.size.high as u16,
+            edits: self.edits.as_slice(),
+            done: self.done,
+            source: self.bytes.as_slice(),
+        };
+        append_file(&mut out, listing)?;
         Ok(out)
     }
 }

@@ -1,16 +1,17 @@
 -- Tiles built one after the other, and what the tiles show after an edit and a rebuild. Assumes nothing.
-use Rattle.std.proofs.Common.{◌≡◌, ℕ, ◌+◌, ◌*◌, ◌/◌, ◌%◌, ◌<◌, ◌≤◌, ◌⊎◌, List, get_or, sym, refl, ap, ◌∙◌, subst₂, inl, inr, arith}
+use Rattle.std.proofs.Common.{◌≡◌, ℕ, ◌+◌, ◌*◌, ◌/◌, ◌%◌, ◌<◌, ◌≤◌, ◌⊎◌, List, get_or, sym, ap, ◌∙◌, subst₂, inl, inr, arith}
 use native.Mathlib.Nat.{div-add-mod}
 use Rattle.std.proofs.lemmas.Bool.{cases_eq, cases_lt}
+use Rattle.pixel.specs.declared.areas.Area.{Area}
 use Rattle.pixel.specs.Bytes.{Wrote}
+use Rattle.pixel.specs.Areas.{InArea}
 use Rattle.pixel.proofs.Steps.{pixel_kept}
 use Rattle.page.specs.Edits.{Page, seen}
 use Rattle.canvas.specs.declared.state.Canvas.{Canvas}
 use Rattle.canvas.specs.View.{view}
-use Rattle.tiles.specs.declared.layout.Area.{Area}
-use Rattle.tiles.specs.Places.{tile_of, begins, place, TileBuilt, BuiltWhere, InArea, Meets, InBand, Shown, OnlyIn}
+use Rattle.tiles.specs.Places.{tile_of, begins, place, TileBuilt, BuiltWhere, Meets, InBand, Shown, OnlyIn}
 use Rattle.tiles.proofs.Offsets.{ends, in_side, side_there, tile_ends, place_ends, place_out}
-use Rattle.tiles.proofs.Grids.{wrote_none, wrote_join, wrote_wider, pixel_within}
+use Rattle.tiles.proofs.Grids.{wrote_join, wrote_wider, pixel_within}
 use Rattle.tiles.proofs.Seeing.{SameAt, seen_same, planes_kept}
 
 -- tests that come out one way or the other
@@ -37,13 +38,13 @@ meets_or_not a x y = both (both (below a.left (32 * x + 32)) (below (32 * x) (a.
 
 module _ (s : Canvas) where
   abbrev w : ℕ
-  w = s.wide
+  w = s.size.wide
 
   abbrev h : ℕ
-  h = s.high
+  h = s.size.high
 
   abbrev n : ℕ
-  n = s.wide * s.high
+  n = s.size.wide * s.size.high
 
   -- what is seen rests on the planes, which building tiles leaves
   seen_kept : (xs ys : List ℕ) (i j : ℕ) → i < w → j < h → Wrote (512 * n) (516 * n) xs ys → seen (view s ys) i j ≡ seen (view s xs) i j
@@ -59,10 +60,6 @@ module _ (s : Canvas) where
             u.written (i % 32) (j % 32) (in_side w i iw) (in_side h j jh) ∙ ap (λ x. seen (view s xs) x (32 * (j / 32) + j % 32)) (div-add-mod i 32) ∙ ap (seen (view s xs) i) (div-add-mod j 32);
         kept = λ i j iw jh ne. pixel_kept _ _ xs ys (place w h i j) t.wrote (place_out w h i j tx ty iw jh tw th ne);
       }
-
-  -- none
-  pub where_none : (D : ℕ → ℕ → Type 0) (xs : List ℕ) → ((x y : ℕ) → D x y → ⊥) → BuiltWhere D s xs xs
-  where_none D xs none = record { wrote = wrote_none (512 * n) (516 * n) xs; built = λ i j iw jh d. absurd (none (i / 32) (j / 32) d); kept = λ i j iw jh ne. refl }
 
   -- those of D, then those of E: those of F, which is D or E
   pub where_join : (D E F : ℕ → ℕ → Type 0) (xs ys zs : List ℕ) → ((x y : ℕ) → OrNot (E x y)) →
@@ -103,6 +100,6 @@ module _ (s : Canvas) where
   shown_kept p xs ys so was i j iw jh = pixel_within (512 * n) (516 * n) xs ys (place w h i j) so (omega arith) (place_ends w h i j iw jh) ∙ was i j iw jh
 
   -- the whole page
-  pub shown_all : (xs ys : List ℕ) → BuiltWhere (Meets (record { left = 0; top = 0; wide = s.wide; high = s.high })) s xs ys → Shown s (view s ys) ys
+  pub shown_all : (xs ys : List ℕ) → BuiltWhere (Meets (record { left = 0; top = 0; wide = s.size.wide; high = s.size.high })) s xs ys → Shown s (view s ys) ys
   shown_all xs ys so i j iw jh =
       so.built i j iw jh ((omega arith, omega (arith, side_there w i iw)), (omega arith, omega (arith, side_there h j jh))) ∙ sym (seen_kept xs ys i j iw jh so.wrote)

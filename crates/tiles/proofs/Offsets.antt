@@ -2,8 +2,8 @@
 use Rattle.std.proofs.Common.{◌≡◌, ℕ, ◌+◌, ◌-◌, ◌*◌, ◌/◌, ◌%◌, ◌<◌, ◌≤◌, min, ◌⊎◌, sym, ap, inl, inr, mul-le-mul_right, mod-lt, arith}
 use native.Mathlib.Nat.{min-le_left, min-le_right, div-add-mod}
 use Rattle.std.proofs.lemmas.Bool.{cases_order}
+use Rattle.pixel.specs.declared.areas.Area.{Area}
 use Rattle.tiles.specs.Places.{tile_of, begins, place}
-use Rattle.tiles.specs.declared.layout.Area.{Area}
 
 -- the end of a tile
 abbrev pub ends : ℕ → ℕ → Area → ℕ

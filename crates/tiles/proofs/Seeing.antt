@@ -1,5 +1,5 @@
 -- What is seen of the first layers, at one pixel: it rests on their pixels there alone. Assumes nothing.
-use Rattle.std.proofs.Common.{◌≡◌, ℕ, zero, suc, ◌+◌, ◌-◌, ◌*◌, ◌<◌, ◌≤◌, List, get_or, sym, refl, ap, ◌∙◌, subst, inl, add-one, arith}
+use Rattle.std.proofs.Common.{◌≡◌, ℕ, zero, suc, ◌+◌, ◌-◌, ◌*◌, ◌<◌, ◌≤◌, ◌⊎◌, true, not, List, get_or, sym, refl, ap, ◌∙◌, subst, inl, inr, add-one, arith, rules, Fits, w8}
 use Rattle.std.proofs.lemmas.Nat.{mul-add-lt}
 use Rattle.std.proofs.lemmas.Bool.{cond_both}
 use Rattle.pixel.specs.declared.Pixel.{Pixel}
@@ -14,6 +14,9 @@ use Rattle.canvas.specs.declared.state.Canvas.{Canvas}
 use Rattle.canvas.specs.View.{view, plane_at, no_entry, layer_of, seen_below}
 use Rattle.canvas.proofs.Views.{plane_in}
 use Rattle.canvas.proofs.Layering.{composite_more}
+use Rattle.tiles.specs.declared.layout.Tile.{Tile}
+use Rattle.tiles.specs.Laying.{tile_pixel, Laid}
+use Rattle.tiles.proofs.Grids.{grid_same}
 
 -- a share of nothing, and what a layer of opacity 0 leaves
 share_none : (a : ℕ) → share a 0 ≡ 0
@@ -47,18 +50,18 @@ layer_none w h xs e i j p none fits =
 
 module _ (s : Canvas) where
   abbrev n : ℕ
-  n = s.wide * s.high
+  n = s.size.wide * s.size.high
 
   -- one layer more
-  pub seen_more : (xs : List ℕ) (k i j : ℕ) → k < 64 → seen_below s xs (k + 1) i j ≡ layer_over (layer_of s.wide s.high xs (get_or s.layers k no_entry)) i j (seen_below s xs k i j)
-  seen_more xs k i j l = composite_more s.wide s.high xs s.layers k no_entry (λ x y. white) i j (omega (arith, s.full))
+  pub seen_more : (xs : List ℕ) (k i j : ℕ) → k < 64 → seen_below s xs (k + 1) i j ≡ layer_over (layer_of s.size.wide s.size.high xs (get_or s.layers k no_entry)) i j (seen_below s xs k i j)
+  seen_more xs k i j l = composite_more s.size.wide s.size.high xs s.layers k no_entry (λ x y. white) i j (omega (arith, s.full))
 
   -- the planes are the same at a pixel
   abbrev pub SameAt : List ℕ → List ℕ → ℕ → ℕ → Type 0
-  SameAt xs ys i j = (k : ℕ) → k < 64 → pixel_at ys (plane_at n k + 4 * (j * s.wide + i)) ≡ pixel_at xs (plane_at n k + 4 * (j * s.wide + i))
+  SameAt xs ys i j = (k : ℕ) → k < 64 → pixel_at ys (plane_at n k + 4 * (j * s.size.wide + i)) ≡ pixel_at xs (plane_at n k + 4 * (j * s.size.wide + i))
 
   pub layer_same : (xs ys : List ℕ) (e : Entry) (i j : ℕ) (p q : Pixel) → e.plane < 64 → SameAt xs ys i j → p ≡ q →
-      layer_over (layer_of s.wide s.high ys e) i j p ≡ layer_over (layer_of s.wide s.high xs e) i j q
+      layer_over (layer_of s.size.wide s.size.high ys e) i j p ≡ layer_over (layer_of s.size.wide s.size.high xs e) i j q
   layer_same xs ys e i j p q low same is = rw (same e.plane low, is) refl
 
   pub first_same : (xs ys : List ℕ) (k i j : ℕ) → k ≤ 64 → SameAt xs ys i j → seen_below s ys k i j ≡ seen_below s xs k i j
@@ -73,5 +76,16 @@ module _ (s : Canvas) where
   seen_same xs ys i j same = first_same xs ys s.count i j s.counted.1 same
 
   -- where no byte of the planes is written they are the same
-  pub planes_kept : (a e : ℕ) (xs ys : List ℕ) (i j : ℕ) → i < s.wide → j < s.high → 256 * n ≤ a → Wrote a e xs ys → SameAt xs ys i j
-  planes_kept a e xs ys i j iw jh l so k low = pixel_kept a e xs ys _ so (inl (omega (arith, plane_in n k low, mul-add-lt j s.wide i s.high jh iw)))
+  pub planes_kept : (a e : ℕ) (xs ys : List ℕ) (i j : ℕ) → i < s.size.wide → j < s.size.high → 256 * n ≤ a → Wrote a e xs ys → SameAt xs ys i j
+  planes_kept a e xs ys i j iw jh l so k low = pixel_kept a e xs ys _ so (inl (omega (arith, plane_in n k low, mul-add-lt j s.size.wide i s.size.high jh iw)))
+
+-- a layer that is not visible, or of opacity 0, laid on a tile: nothing is written
+pub laid_none : (e : Entry) (t : Tile) (xs : List ℕ) → ((k : ℕ) → Fits w8 (get_or xs k 0)) → (not e.visible ≡ true) ⊎ (e.opacity ≡ 0) → Laid e t xs xs
+laid_none e t xs small none =
+    let z = t.canvas.now.size in
+    grid_same t.at t.area.wide _ t.area.high xs
+    (λ i j iw jh.
+    elim none [
+      | inl hidden ↦ search rules
+      | inr clear ↦ layer_none z.wide z.high xs e (t.area.left + i) (t.area.top + j) (tile_pixel t xs i j) clear (omega (arith, small (t.at + 4 * (j * t.area.wide + i) + 3)))
+    ])

@@ -1,76 +1,67 @@
 // The layers of a canvas laid on a tile, in place: each row of a layer's plane on the row of the tile that shows it.
-ghost use Rattle.std.specs.Prelude.{◌≡◌, ℕ, ◌+◌, ◌*◌, ◌<◌, ◌≤◌, length, slice_index, slice_index_or};
-ghost use Rattle.pixel.specs.Modes.{mode_number};
-ghost use Rattle.pixel.specs.Pixels.{pixel_over};
-ghost use Rattle.pixel.specs.Bytes.{pixel_at, PixelsTo};
-ghost use Rattle.canvas.specs.View.{no_entry};
-ghost use Rattle.tiles.specs.Laying.{Ready, White, Over, Laid};
-ghost use Rattle.tiles.specs.Places.{SeenTo};
+ghost use Rattle.std.specs.Prelude.{◌≡◌, ℕ, ◌<◌, length, slice_index};
+ghost use Rattle.tiles.specs.Laying.{LiesIn, White, Over, Laid};
+ghost use Rattle.tiles.specs.Places.{SeenTo, TileBuilt};
 
-use crate::layout::Area;
-use canvas::state::Canvas;
-use pixel::modes::Mode;
-use pixel::pixels::{lay_pixel, read_pixel, write_pixel};
+use crate::layout::Tile;
+use canvas::state::Layer;
+use pixel::pixels::lay_pixel;
+use pixel::runs::step_pixels;
 
 // A tile that shows no layer yet.
-pub(crate) fn whiten(tile: &mut [u8])
+fn whiten(tile: &mut [u8])
     ensures { (k : ℕ) → k < length tile.old → slice_index tile.new k ≡ 255 }
 {
     tile.fill(255);
 }
 
-// The n pixels from `from` on, laid on those from `to` on.
-fn lay_row(tiles: &mut [u8], from: usize, to: usize, n: usize, mode: Mode, opacity: u8)
-    requires { (from + 4 * n ≤ to) × (to + 4 * n ≤ length tiles.old) }
-    ensures { PixelsTo (λ k. pixel_over (mode_number mode) opacity (pixel_at tiles.old (from + 4 * k)) (pixel_at tiles.old (to + 4 * k))) to n tiles.old tiles.new }
-{
-    for k in 0..n {
-        let new = read_pixel(tiles, from + 4 * k);
-        let old = read_pixel(tiles, to + 4 * k);
-        write_pixel(tiles, to + 4 * k, lay_pixel(mode, opacity, new, old));
+impl<'a> Tile<'a> {
+    // A layer laid on the tile.
+    fn lay_rows(&self, tiles: &mut [u8], layer: Layer)
+        requires { (layer.plane < 64) × (LiesIn self.now tiles.old) }
+        ensures { Over layer self.now tiles.old tiles.new }
+    {
+        let wide = self.canvas.size.wide;
+        let from = self.canvas.start_of(layer) + 4 * (self.area.top * wide + self.area.left);
+        // Rows by their numbers, as bands and tiles are in a page: they lie apart in it, and are items of no slice.
+        for r in 0..self.area.high {
+            step_pixels(
+                tiles,
+                from + 4 * (r * wide),
+                self.at + 4 * (r * self.area.wide),
+                self.area.wide,
+                |new, old| lay_pixel(layer.mode, layer.opacity, new, old),
+            );
+        }
     }
-}
 
-// Layer k laid on the tile that begins at `at`.
-fn lay_rows(canvas: &Canvas, tiles: &mut [u8], k: usize, tile: Area, at: usize)
-    requires { (k < 64) × (Ready canvas.now tile at tiles.old) }
-    ensures { Over canvas.now (slice_index_or canvas.now.layers k no_entry) tile at tiles.old tiles.new }
-{
-    let layer = canvas.layers[k];
-    let from = canvas.plane_of(k) + 4 * (tile.top * canvas.wide + tile.left);
-    for r in 0..tile.high {
-        lay_row(
-            tiles,
-            from + 4 * (r * canvas.wide),
-            at + 4 * (r * tile.wide),
-            tile.wide,
-            layer.mode,
-            layer.opacity,
-        );
+    // The same, unless it would change nothing: where the layer is not visible, or its opacity is 0.
+    fn lay_layer(&self, tiles: &mut [u8], layer: Layer)
+        requires { (layer.plane < 64) × (LiesIn self.now tiles.old) }
+        ensures { Laid layer self.now tiles.old tiles.new }
+    {
+        if !layer.visible || layer.opacity == 0 {
+            return;
+        }
+        self.lay_rows(tiles, layer);
     }
-}
 
-// The same, unless it would change nothing: where the layer is not visible, or its opacity is 0.
-fn lay_layer(canvas: &Canvas, tiles: &mut [u8], k: usize, tile: Area, at: usize)
-    requires { (k < 64) × (Ready canvas.now tile at tiles.old) }
-    ensures { Laid canvas.now (slice_index_or canvas.now.layers k no_entry) tile at tiles.old tiles.new }
-{
-    let layer = canvas.layers[k];
-    if !layer.visible {
-        return;
+    // All layers, from below, laid on a white tile.
+    fn lay_layers(&self, tiles: &mut [u8])
+        requires { (LiesIn self.now tiles.old) × (White self.now tiles.old) }
+        ensures { SeenTo self.now.canvas.now self.now.area self.now.at tiles.old tiles.new }
+    {
+        for layer in &self.canvas.layers[..self.canvas.count] {
+            self.lay_layer(tiles, *layer);
+        }
     }
-    if layer.opacity == 0 {
-        return;
-    }
-    lay_rows(canvas, tiles, k, tile, at);
-}
 
-// All layers, from below, laid on a white tile.
-pub(crate) fn lay_layers(canvas: &Canvas, tiles: &mut [u8], tile: Area, at: usize)
-    requires { (Ready canvas.now tile at tiles.old) × (White tile at tiles.old) }
-    ensures { SeenTo canvas.now tile at tiles.old tiles.new }
-{
-    for k in 0..canvas.count {
-        lay_layer(canvas, tiles, k, tile, at);
+    // White, and then the layers on it.
+    pub fn build(&self, tiles: &mut [u8])
+        requires { LiesIn self.now tiles.old }
+        ensures { TileBuilt self.now.canvas.now self.now.area tiles.old tiles.new }
+    {
+        whiten(&mut tiles[self.at..self.at + 4 * (self.area.high * self.area.wide)]);
+        self.lay_layers(tiles);
     }
 }

@@ -1,38 +1,45 @@
 // Where the tiles of a page lie.
 ghost use Rattle.std.specs.Prelude.{◌≡◌, ◌+◌, ◌*◌, ◌<◌, ◌≤◌};
+ghost use Rattle.pixel.specs.Areas.{AreaIn};
 ghost use Rattle.tiles.specs.Places.{tile_of, begins};
 
-use canvas::layout::area;
+use canvas::state::Canvas;
+use pixel::areas::Area;
 
-// A part of the page: a tile, or where something has changed.
+// How many pixels a tile has across and down, but at the right and lower edge of the page, where it may have fewer.
+pub const SIDE: usize = 32;
+
+// A tile: the part of a canvas' page that it shows, and where its pixels begin in the lent memory.
 #[derive(Clone, Copy)]
-pub struct Area {
-    pub left: usize,
-    pub top: usize,
-    pub wide: usize,
-    pub high: usize,
+pub(crate) struct Tile<'a> {
+    pub canvas: &'a Canvas,
+    pub area: Area,
+    pub at: usize,
+    ghost inside: { AreaIn canvas.now.size.wide canvas.now.size.high area },
+    ghost placed: { at ≡ begins canvas.now.size.wide canvas.now.size.high area },
 }
 
-// The part of a page that tile (tx, ty) shows; those at the right and lower edge may be smaller.
-pub(crate) fn tile_of(wide: usize, high: usize, tx: usize, ty: usize) -> Area
-    requires { (32 * tx < wide) × (32 * ty < high) }
-    ensures { result ≡ tile_of wide high tx ty }
-{
-    let left = 32 * tx;
-    let top = 32 * ty;
-    Area {
-        left,
-        top,
-        wide: (wide - left).min(32),
-        high: (high - top).min(32),
+impl<'a> Tile<'a> {
+    // Tile (tx, ty) of a page. What is seen begins behind the planes, at 512 n in a page of n pixels.
+    pub fn new(canvas: &'a Canvas, tx: usize, ty: usize) -> Tile<'a>
+        requires { (32 * tx < canvas.now.size.wide) × (32 * ty < canvas.now.size.high) }
+        ensures canvas { result.canvas.now ≡ canvas.now }
+        ensures area { result.area ≡ tile_of canvas.now.size.wide canvas.now.size.high tx ty }
+    {
+        let size = canvas.size;
+        let left = SIDE * tx;
+        let top = SIDE * ty;
+        let wide = SIDE.min(size.wide - left);
+        let high = SIDE.min(size.high - top);
+        Tile {
+            canvas,
+            area: Area {
+                left,
+                top,
+                wide,
+                high,
+            },
+            at: 512 * size.area() + 4 * (top * size.wide + left * high),
+        }
     }
-}
-
-// Where a tile begins in the lent memory.
-pub(crate) fn tile_at(wide: usize, high: usize, tile: Area) -> usize
-    requires { (wide ≤ 4096) × ((high ≤ 4096) × ((tile.left + tile.wide ≤ wide) × (tile.top + tile.high ≤ high))) }
-    ensures is { result ≡ begins wide high tile }
-    ensures ends { result + 4 * (tile.high * tile.wide) ≤ 516 * (wide * high) }
-{
-    512 * area(wide, high) + 4 * (tile.top * wide + tile.left * tile.high)
 }

@@ -2,8 +2,7 @@
 ghost use Rattle.std.specs.Prelude.{◌≡◌};
 ghost use Rattle.tiles.specs.Places.{shown_at};
 
-use crate::layout::{tile_at, tile_of};
-use canvas::layout::area;
+use crate::layout::{SIDE, Tile};
 use canvas::state::Canvas;
 use pixel::Pixel;
 use pixel::pixels::read_pixel;
@@ -12,10 +11,10 @@ use pixel::pixels::read_pixel;
 pub fn show(canvas: &Canvas, tiles: &[u8], x: usize, y: usize) -> Option<Pixel>
     ensures { result ≡ shown_at canvas.now tiles.now x y }
 {
-    if x >= canvas.wide || y >= canvas.high || tiles.len() < 544 * area(canvas.wide, canvas.high) {
+    if !canvas.shows(tiles.len(), x, y) {
         return None;
     }
-    let tile = tile_of(canvas.wide, canvas.high, x / 32, y / 32);
-    let at = tile_at(canvas.wide, canvas.high, tile) + 4 * (y % 32 * tile.wide + x % 32);
+    let tile = Tile::new(canvas, x / SIDE, y / SIDE);
+    let at = tile.at + 4 * (y % SIDE * tile.area.wide + x % SIDE);
     Some(read_pixel(tiles, at))
 }

@@ -1,12 +1,13 @@
 -- Readers go on from what was read: one step, whatever is read.
-use Rattle.std.proofs.Common.{◌≡◌, ℕ, ◌+◌, ◌<◌, ◌≤◌, Bool, true, false, cond, List, [], ◌∷◌, length, get_or, drop, Some, None, Option, sym, refl, ap, ◌∙◌, append_assoc, append-nil}
+use Rattle.std.proofs.Common.{◌≡◌, ℕ, ◌+◌, ◌<◌, List, [], ◌∷◌, length, get_or, drop, Some, None, Err, Option, sym, refl, ap, ◌∙◌, append_assoc}
 use Rattle.std.specs.Fmt.{option_append}
-use Rattle.std.proofs.lemmas.List.{at_drop_more, at_drop_all}
+use Rattle.std.proofs.lemmas.List.{at_drop_more}
+use Rattle.words.specs.declared.lines.Unread.{Unread}
+use Rattle.words.specs.declared.lines.Unread.TheVariants.{NotUnderstood, NoMemory}
 use Rattle.words.specs.declared.forms.Field.{Field}
 use Rattle.words.specs.Table.{field_bytes, fields_bytes}
 use Rattle.words.specs.Digits.{hex_bytes}
-use Rattle.words.specs.Split.{no_words}
-use Rattle.words.specs.Lines.{hex_words}
+use Rattle.words.specs.Lines.{ReadsOn, hex_words}
 
 pub then_assoc : (o p q : Option (List ℕ)) → option_append (option_append o p) q ≡ option_append o (option_append p q)
 then_assoc None p q = refl
@@ -19,16 +20,7 @@ pub then_on : (o : Option (List ℕ)) (old : List ℕ) (step rest : Option (List
     option_append o rest ≡ option_append (Some old) (option_append step rest)
 then_on o old step rest e = ap (λ p. option_append p rest) e ∙ then_assoc (Some old) step rest
 
--- an end that is right or not
-pub then_end : (b : Bool) (old : List ℕ) → cond b (Some old) None ≡ option_append (Some old) (cond b (Some []) None)
-then_end true old = ap (λ (xs : List ℕ). Some xs) (sym (append-nil old))
-then_end false old = refl
-
-pub at_field : (f g : Field) (old w : List ℕ) (o : Option (List ℕ)) → f ≡ g → o ≡ option_append (Some old) (field_bytes g w) →
-    o ≡ option_append (Some old) (field_bytes f w)
-at_field f g old w o e h = h ∙ ap (λ k. option_append (Some old) (field_bytes k w)) (sym e)
-
--- the steps of a reader of fields: a word, no word, no field
+-- the steps of a reader of fields: a word, no word
 module _ (fs : List Field) (i : ℕ) (d : Field) (old : List ℕ) where
   -- the field that comes, at words that are known
   fields_at : (ws vs : List (List ℕ)) → i < length fs → ws ≡ vs → fields_bytes (get_or fs i d ∷ drop (i + 1) fs) vs ≡ fields_bytes (drop i fs) ws
@@ -43,17 +35,13 @@ module _ (fs : List Field) (i : ℕ) (d : Field) (old : List ℕ) where
   pub fields_short : (ws : List (List ℕ)) → i < length fs → ws ≡ [] → None ≡ option_append (Some old) (fields_bytes (drop i fs) ws)
   fields_short ws h e = ap (option_append (Some old)) (fields_at ws [] h e)
 
-  pub fields_end : (ws : List (List ℕ)) → length fs ≤ i → cond (no_words ws) (Some old) None ≡ option_append (Some old) (fields_bytes (drop i fs) ws)
-  fields_end ws h = no_fields ws ∙ ap (option_append (Some old)) (sym (at_drop_all (λ gs. fields_bytes gs ws) fs i h)) where
-    no_fields : (ws : List (List ℕ)) → cond (no_words ws) (Some old) None ≡ option_append (Some old) (fields_bytes [] ws)
-    no_fields [] = then_end true old
-    no_fields (w ∷ ws) = refl
-
 -- the same of a reader of words in hex
 pub hexes_step : (o : Option (List ℕ)) (old : List ℕ) (ws : List (List ℕ)) (w : List ℕ) (rest : List (List ℕ)) → ws ≡ w ∷ rest →
     o ≡ option_append (Some old) (hex_bytes w) → option_append o (hex_words rest) ≡ option_append (Some old) (hex_words ws)
 hexes_step o old ws w rest e g = then_on o old (hex_bytes w) (hex_words rest) g ∙ ap (λ vs. option_append (Some old) (hex_words vs)) (sym e)
 
--- a flag that is known
-pub at_flag : (ok b : Bool) (new : List ℕ) (o : Option (List ℕ)) → ok ≡ b → cond ok (Some new) None ≡ o → cond b (Some new) None ≡ o
-at_flag ok b new o e h = ap (λ t. cond t (Some new) None) (sym e) ∙ h
+-- where a step has none, the whole has none
+pub none_on : (why : Unread) (was new old last : List ℕ) (step whole : Option (List ℕ)) → ReadsOn (Err why) was new step →
+    (None ≡ option_append (Some was) step → None ≡ option_append (Some old) whole) → ReadsOn (Err why) old last whole
+none_on NotUnderstood was new old last step whole h so = so h
+none_on NoMemory was new old last step whole h so = tt

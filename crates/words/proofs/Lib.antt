@@ -5,4 +5,3 @@ pub mod Reading
 pub mod Going
 pub mod Playing
 pub mod Pieces
-pub mod Arguments

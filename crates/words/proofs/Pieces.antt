@@ -1,19 +1,11 @@
 -- Pieces added to a list of bytes one after the other. Assumes nothing.
-use Rattle.std.proofs.Common.{◌≡◌, ℕ, zero, suc, ◌+◌, ◌<◌, cond, List, [], ◌∷◌, ◌++◌, is_ok, IfOk, Ok, Err, Result, sym, refl, ap, ◌∙◌, ap₂, append_assoc, add-one, arith}
+use Rattle.std.proofs.Common.{◌≡◌, ℕ, zero, suc, ◌+◌, ◌<◌, List, ◌++◌, sym, refl, ap, ◌∙◌, ap₂, append_assoc, add-one, arith}
 use Rattle.pixel.specs.declared.Pixel.{Pixel}
 use Rattle.words.specs.declared.showing.Format.{Format}
-use Rattle.words.specs.Printing.{upto, gap, heading, cell, row_end, printed}
+use Rattle.words.specs.Printing.{upto, heading, cell, row_end, printed}
 
 pub both_added : (old mid last a b : List ℕ) → mid ≡ old ++ a → last ≡ mid ++ b → last ≡ old ++ (a ++ b)
 both_added old mid last a b m l = l ∙ (ap (λ xs. xs ++ b) m ∙ append_assoc old a b)
-
-pub then_made : {E : Type 0} (old mid last a b : List ℕ) (r : Result (Unit {0}) E) → mid ≡ old ++ a → last ≡ cond (is_ok r) (mid ++ b) mid → IfOk r (λ u. last ≡ old ++ (a ++ b))
-then_made old mid last a b (Ok u) m l = both_added old mid last a b m l
-then_made old mid last a b (Err x) m l = tt
-
-pub gap_some : (x : ℕ) → (x ≡ 0 → ⊥) → gap x ≡ 32 ∷ []
-gap_some zero h = absurd (h refl)
-gap_some (suc x) h = refl
 
 pub one_more : (f : ℕ → List ℕ) (k : ℕ) (old mid last : List ℕ) → mid ≡ old ++ upto f k → last ≡ mid ++ f k → last ≡ old ++ upto f (k + 1)
 one_more f k old mid last m l = both_added old mid last (upto f k) (f k) m l ∙ ap (λ n. old ++ upto f n) (sym (add-one k))

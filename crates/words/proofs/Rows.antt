@@ -1,15 +1,15 @@
 -- The words of a row's fields are read back, whatever the fields are; a row is found again by its name.
-use Rattle.std.proofs.Common.{◌≡◌, ℕ, ◌+◌, ◌*◌, ◌/◌, ◌%◌, ◌<◌, ◌≤◌, Bool, true, false, not, ◌&&◌, eqb, List, [], ◌∷◌, ◌++◌, map, length, get_or, take, drop, Some, None, codes, sym, refl, ap, ◌∙◌, subst, inl, inr, append_assoc, arith, length-drop, take-append-drop, length-take}
-use Rattle.std.specs.List.{AllByRecursion}
+use Rattle.std.proofs.Common.{◌≡◌, ℕ, ◌+◌, ◌*◌, ◌/◌, ◌%◌, ◌<◌, ◌≤◌, Bool, true, false, not, ◌&&◌, eqb, List, [], ◌∷◌, ◌++◌, map, length, get_or, take, drop, Some, None, codes, sym, refl, ap, ◌∙◌, subst, inl, inr, arith, length-drop, take-append-drop, length-take}
+use Rattle.std.specs.List.{AllByRecursion, find}
+use Rattle.std.specs.Option.{option_map}
 use Rattle.std.proofs.ByRecursion.{All-take, All-drop}
 use Rattle.std.proofs.lemmas.Slice.Eq.{bytes_eq-Decides}
-use Rattle.std.proofs.lemmas.List.{at_drop_more, at_drop_all}
 use Rattle.std.proofs.lemmas.Bool.{eqb-true, cases_Bool, cond-true, cond-false, and_parts, not-true, false≢true}
 use Rattle.words.specs.declared.forms.Field.{Field}
 use Rattle.words.specs.declared.forms.Field.TheVariants.{Byte, Short, Colour}
 use Rattle.words.specs.declared.forms.Form.{Form}
-use Rattle.words.specs.Split.{is_space, spaced}
-use Rattle.words.specs.Table.{Row, table, row_of, find, size, sizes, field_bytes, fields_bytes, field_word, field_words}
+use Rattle.words.specs.Split.{is_space}
+use Rattle.words.specs.Table.{Row, table, row_of, size, sizes, field_bytes, fields_bytes, field_word, field_words}
 use Rattle.words.specs.Lines.{named, fits_row}
 use Rattle.words.proofs.Splitting.{Inside, Word}
 use Rattle.words.proofs.Numerals.{hex_back, hex_word, number_back, decimal_word}
@@ -161,23 +161,7 @@ pub bytes_no_row : find (named (codes "bytes")) table ≡ None
 unfolding table
 bytes_no_row = refl
 
--- the steps of a search through forms
-pub find_here : (test : Row → Bool) (fs : List Form) (i : ℕ) (d : Form) → i < length fs → test (row_of (get_or fs i d)) ≡ true →
-    find test (map row_of (drop i fs)) ≡ Some (row_of (get_or fs i d))
-find_here test fs i d h t = at_drop_more (λ gs. find test (map row_of gs)) fs i d h ∙ cond-true _ _ _ t
-
-pub find_on : (test : Row → Bool) (fs : List Form) (i : ℕ) (d : Form) → i < length fs → test (row_of (get_or fs i d)) ≡ false →
-    find test (map row_of (drop i fs)) ≡ find test (map row_of (drop (i + 1) fs))
-find_on test fs i d h t = at_drop_more (λ gs. find test (map row_of gs)) fs i d h ∙ cond-false _ _ _ t
-
-pub find_none : (test : Row → Bool) (fs : List Form) (i : ℕ) → length fs ≤ i → find test (map row_of (drop i fs)) ≡ None
-find_none test fs i h = at_drop_all (λ gs. find test (map row_of gs)) fs i h
-
--- one word more of a turn's fields
-pub spaced_step : (fs : List Field) (i : ℕ) (d : Field) (old gap new bytes rest : List ℕ) → i < length fs → gap ≡ old ++ 32 ∷ [] →
-    new ≡ gap ++ field_word (get_or fs i d) bytes → rest ≡ drop (size (get_or fs i d)) bytes →
-    new ++ spaced (field_words (drop (i + 1) fs) rest) ≡ old ++ spaced (field_words (drop i fs) bytes)
-spaced_step fs i d old gap new bytes rest h e f g =
-    let step = at_drop_more (λ gs. spaced (field_words gs bytes)) fs i d h in
-    let inner = append_assoc (old ++ 32 ∷ []) (field_word (get_or fs i d) bytes) (spaced (field_words (drop (i + 1) fs) rest)) in
-    let outer = append_assoc old (32 ∷ []) (field_word (get_or fs i d) bytes ++ spaced (field_words (drop (i + 1) fs) rest)) in cc
+-- the first form whose row passes is that of the first row that does
+pub find_row : (test : Row → Bool) (fs : List Form) → option_map row_of (find (λ f. test (row_of f)) fs) ≡ find test (map row_of fs)
+find_row test [] = refl
+find_row test (f ∷ fs) = elim (cases_Bool (test (row_of f))) [ inl t ↦ rw t refl | inr n ↦ rw n (find_row test fs) ]

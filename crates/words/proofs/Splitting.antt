@@ -1,9 +1,10 @@
 -- A line of words with spaces between is split into these words.
-use Rattle.std.proofs.Common.{◌≡◌, ℕ, zero, suc, ◌+◌, ◌<◌, ◌≤◌, true, false, List, [], ◌∷◌, ◌++◌, length, get_or, drop, refl, ap, ◌∙◌, append_assoc, append-nil, arith}
-use Rattle.std.specs.List.{AllByRecursion}
-use Rattle.std.proofs.lemmas.Bool.{both_ways, cond-true, cond-false}
-use Rattle.std.proofs.lemmas.List.{at_drop_more, drop_all}
-use Rattle.words.specs.Split.{is_space, ended, split, words_of, spaced}
+use Rattle.std.proofs.Common.{◌≡◌, ℕ, suc, ◌+◌, ◌<◌, ◌≤◌, Bool, true, false, not, List, [], ◌∷◌, ◌++◌, length, take, drop, inl, inr, sym, subst, ap₂, refl, ap, ◌∙◌, append_assoc, append-nil, arith, unwrap_or}
+use Rattle.std.specs.List.{AllByRecursion, position, position_or_len}
+use Rattle.std.proofs.lemmas.Bool.{cases_Bool, cases_lt, lt-ltb, le-ltb, cond-false}
+use Rattle.std.proofs.lemmas.List.{length-take-le}
+use Rattle.std.proofs.lemmas.List.Sums.{prefix_len-le-length}
+use Rattle.words.specs.Split.{is_space, ends_run, run, ended, split, words_of, spaced}
 
 abbrev pub Inside : ℕ → Type 0
 Inside b = is_space b ≡ false
@@ -28,21 +29,58 @@ split_spaced (b ∷ bs) (w ∷ ws) h each =
 pub words_back : (w : List ℕ) (ws : List (List ℕ)) → Word w → AllByRecursion Word ws → words_of (w ++ spaced ws) ≡ w ∷ ws
 words_back w ws h each = split_word [] w (spaced ws) h.inside ∙ split_spaced w ws h.some each
 
--- a cursor comes to a byte of the word, a space, the end
-pub split_on : (w xs : List ℕ) (i : ℕ) → i < length xs → Inside (get_or xs i 0) → split w (drop i xs) ≡ split (w ++ get_or xs i 0 ∷ []) (drop (i + 1) xs)
-split_on w xs i h s = at_drop_more (split w) xs i 0 h ∙ cond-false _ _ _ s
+-- the first place at which a test passes, or the end
+pub place_or_end : (p : ℕ → Bool) (xs : List ℕ) → unwrap_or (position p xs) (length xs) ≡ position_or_len p xs
+place_or_end p xs =
+    elim (cases_lt (position_or_len p xs) (length xs)) [
+      | inl l ↦ rw (lt-ltb (position_or_len p xs) (length xs) l) refl
+      | inr l ↦
+          let all : position_or_len p xs ≡ length xs = omega (arith, prefix_len-le-length (λ b. not (p b)) xs, l) in
+          rw (le-ltb (position_or_len p xs) (length xs) l) (sym all)
+    ]
 
-pub split_off : (w xs : List ℕ) (i : ℕ) → i < length xs → is_space (get_or xs i 0) ≡ true → split w (drop i xs) ≡ ended w (words_of (drop (i + 1) xs))
-split_off w xs i h s = at_drop_more (split w) xs i 0 h ∙ cond-true _ _ _ s
+pub one_more : (n : ℕ) → 1 + n ≡ suc n
+one_more n = omega arith
 
-pub split_end : (w xs : List ℕ) (i : ℕ) → length xs ≤ i → split w (drop i xs) ≡ ended w (words_of (drop i xs))
-split_end w xs i h = rw (drop_all i xs h)
+pub run_within : (spaces : Bool) (xs : List ℕ) → run spaces xs ≤ length xs
+run_within spaces xs = prefix_len-le-length (λ b. not (ends_run spaces b)) xs
 
--- a word that begins with no space has a byte
-pub not_first : (xs : List ℕ) (i : ℕ) → Inside (get_or xs 0 0) → is_space (get_or xs i 0) ≡ true → 0 < i
-not_first xs zero h s = absurd (both_ways _ h s)
-not_first xs (suc i) h s = omega arith
+-- a word stands behind all the spaces at the front, if anything does
+pub run_some : (xs : List ℕ) → 0 < length (drop (run true xs) xs) → 0 < run false (drop (run true xs) xs)
+run_some [] h = absurd (omega (arith, h))
+run_some (b ∷ bs) h =
+    elim (cases_Bool (is_space b)) [
+      | inl t ↦ rw (t, one_more) (run_some bs (rw (t, one_more) at h))
+      | inr f ↦ rw (f, f) (omega arith)
+    ]
+
+-- spaces at the front are no word's
+pub spaces_off : (xs : List ℕ) → words_of (drop (run true xs) xs) ≡ words_of xs
+spaces_off [] = refl
+spaces_off (b ∷ bs) =
+    elim (cases_Bool (is_space b)) [
+      | inl t ↦ rw (t, one_more) (spaces_off bs)
+      | inr f ↦ rw f (rw f refl)
+    ]
+
+-- the bytes at the front that are no spaces lengthen the word, which ends then
+pub word_off : (w xs : List ℕ) → split w xs ≡ ended (w ++ take (run false xs) xs) (words_of (drop (run false xs) xs))
+word_off w [] = rw append-nil refl
+word_off w (b ∷ bs) =
+    elim (cases_Bool (is_space b)) [
+      | inl t ↦ rw t (rw (t, append-nil w) refl)
+      | inr f ↦ rw (f, one_more) (word_off (w ++ b ∷ []) bs ∙ ap (λ v. ended v (words_of (drop (run false bs) bs))) (append_assoc w (b ∷ []) (take (run false bs) bs)))
+    ]
 
 pub ended_some : (w : List ℕ) (ws : List (List ℕ)) → 0 < length w → ended w ws ≡ w ∷ ws
 ended_some [] ws h = absurd (omega arith)
 ended_some (b ∷ bs) ws h = refl
+
+-- the first word, in what stands behind the spaces at the front
+pub first_word : (xs rest w ws : List ℕ) → rest ≡ drop (run true xs) xs → 0 < length rest → w ≡ take (run false rest) rest → ws ≡ drop (run false rest) rest →
+    words_of xs ≡ w ∷ words_of ws
+first_word xs rest w ws back some front behind =
+    let long : 0 < run false rest = subst (λ (r : List ℕ). 0 < run false r) (sym back) (run_some xs (subst (λ (r : List ℕ). 0 < length r) back some)) in
+    let within = run_within false rest in
+    let has : 0 < length w = rw front (rw (length-take-le (run false rest) rest within) long) in
+    sym (spaces_off xs) ∙ (ap words_of (sym back) ∙ (word_off [] rest ∙ (ap₂ (λ v vs. ended v (words_of vs)) (sym front) (sym behind) ∙ ended_some w (words_of ws) has)))

@@ -1,5 +1,5 @@
 -- The command line of a program that takes turns, as words behind its name. Assumes nothing.
-use Rattle.std.specs.Prelude.{ℕ, cond, ◌&&◌, List, [], length, drop, Some, None, codes, Option, ◌==◌, nat_le, slice_index_or}
+use Rattle.std.specs.Prelude.{ℕ, if◌then◌else◌, ◌&&◌, List, [], length, drop, Some, None, codes, Option, ◌==◌, nat_le, slice_index_or}
 use Rattle.std.specs.Option.{option_map}
 use Rattle.std.specs.Str.{bytes_eq}
 use Rattle.words.specs.declared.call.Source.{Source}
@@ -29,7 +29,7 @@ asked c = record { source = from_of c.source; save = option_map (λ s. s.now) c.
 -- a size is a number of 1 to 4096
 abbrev pub some_of : Option ℕ → Option ℕ
 some_of None = None
-some_of (Some n) = cond (nat_le 1 n) (Some n) None
+some_of (Some n) = if nat_le 1 n then Some n else None
 
 abbrev pub size_of : List ℕ → Option ℕ
 size_of w = some_of (number_of 4096 w)
@@ -46,7 +46,9 @@ with_size a (Some m) o = None
 
 abbrev pub with_option : Asked → List ℕ → List ℕ → Option Asked
 with_option a name v =
-    cond (bytes_eq name (codes "--save")) (with_save a a.save v) (cond (bytes_eq name (codes "--size")) (with_size a a.size (size_of v)) None)
+    if bytes_eq name (codes "--save") then with_save a a.save v
+    else if bytes_eq name (codes "--size") then with_size a a.size (size_of v)
+    else None
 
 abbrev pub with_second : Option Asked → List ℕ → List ℕ → Option Asked
 with_second None name v = None
@@ -55,9 +57,10 @@ with_second (Some a) name v = with_option a name v
 -- the options of a list of words
 abbrev pub with_options : Asked → List (List ℕ) → Option Asked
 with_options a ws =
-    cond (length ws == 0) (Some a)
-    (cond (length ws == 2) (with_option a (slice_index_or ws 0 []) (slice_index_or ws 1 []))
-    (cond (length ws == 4) (with_second (with_option a (slice_index_or ws 0 []) (slice_index_or ws 1 [])) (slice_index_or ws 2 []) (slice_index_or ws 3 [])) None))
+    if length ws == 0 then Some a
+    else if length ws == 2 then with_option a (slice_index_or ws 0 []) (slice_index_or ws 1 [])
+    else if length ws == 4 then with_second (with_option a (slice_index_or ws 0 []) (slice_index_or ws 1 [])) (slice_index_or ws 2 []) (slice_index_or ws 3 [])
+    else None
 
 abbrev pub bare : From → Asked
 bare f = record { source = f; save = None; size = None }
@@ -70,5 +73,6 @@ new_page (Some w) (Some h) ws = with_options (bare (blank w h)) ws
 -- what the words ask for: `new W H` or `open FILE`, and then options
 abbrev pub call_of : List (List ℕ) → Option Asked
 call_of ws =
-    cond (nat_le 3 (length ws) && bytes_eq (slice_index_or ws 0 []) (codes "new")) (new_page (number_of 65535 (slice_index_or ws 1 [])) (number_of 65535 (slice_index_or ws 2 [])) (drop 3 ws))
-    (cond (nat_le 2 (length ws) && bytes_eq (slice_index_or ws 0 []) (codes "open")) (with_options (bare (file (slice_index_or ws 1 []))) (drop 2 ws)) None)
+    if nat_le 3 (length ws) && bytes_eq (slice_index_or ws 0 []) (codes "new") then new_page (number_of 65535 (slice_index_or ws 1 [])) (number_of 65535 (slice_index_or ws 2 [])) (drop 3 ws)
+    else if nat_le 2 (length ws) && bytes_eq (slice_index_or ws 0 []) (codes "open") then with_options (bare (file (slice_index_or ws 1 []))) (drop 2 ws)
+    else None

@@ -5,3 +5,4 @@ pub mod Lines
 pub mod Calls
 pub mod Script
 pub mod Printing
+pub mod Programs

@@ -1,18 +1,15 @@
 -- Scripts: their lines, and what comes of playing them on a page. Assumes nothing.
-use Rattle.std.specs.Prelude.{◌≡◌, ℕ, ◌+◌, Bool, true, false, cond, ◌&&◌, List, [], ◌∷◌, ◌++◌, codes, decimal, ◌==◌}
-use Rattle.codec.specs.declared.edits.Refusal.{Refusal}
-use Rattle.codec.specs.Refusals.{number, place}
-use Rattle.words.specs.declared.lines.Line.{Line}
-use Rattle.words.specs.declared.lines.Line.TheVariants.{Blank, Turn, Unknown}
-use Rattle.words.specs.declared.taking.Outcome.{Outcome}
-use Rattle.words.specs.declared.taking.Outcome.TheVariants.{Taken, Refused, NoMemory}
+use Rattle.std.specs.Prelude.{◌≡◌, ℕ, ◌+◌, Bool, true, false, if◌then◌else◌, ◌&&◌, List, [], ◌∷◌, ◌++◌, codes, decimal, is_ok, Ok, Err, Result, ◌==◌}
+use Rattle.codec.specs.Refusals.{refused_text}
+use Rattle.words.specs.declared.taking.Fault.{Fault}
+use Rattle.words.specs.declared.taking.Fault.TheVariants.{Refused, NoMemory}
 use Rattle.words.specs.Split.{ended}
-use Rattle.words.specs.Lines.{understood}
+use Rattle.words.specs.Lines.{Says, blank, turn, unknown, understood}
 
 -- the lines of bytes that stand behind w, the beginning of a line; the last one may lack its line feed
 abbrev pub lines_on : List ℕ → List ℕ → List (List ℕ)
 lines_on w [] = ended w []
-lines_on w (b ∷ bs) = cond (b == 10) (w ∷ lines_on [] bs) (lines_on (w ++ b ∷ []) bs)
+lines_on w (b ∷ bs) = if b == 10 then w ∷ lines_on [] bs else lines_on (w ++ b ∷ []) bs
 
 abbrev pub lines_of : List ℕ → List (List ℕ)
 lines_of bs = lines_on [] bs
@@ -21,33 +18,29 @@ lines_of bs = lines_on [] bs
 abbrev pub not_understood : ℕ → List ℕ
 not_understood n = codes "line " ++ (decimal n ++ codes ": not understood\n")
 
-abbrev pub refused_text : Refusal → List ℕ
-refused_text why = codes "refused " ++ (decimal (number why) ++ (codes " at " ++ decimal (place why)))
+abbrev pub fault_text : Fault → List ℕ
+fault_text (Refused why) = refused_text why
+fault_text NoMemory = codes "out of memory"
 
-abbrev pub told : ℕ → Outcome → List ℕ
-told n Taken = []
-told n (Refused why) = codes "line " ++ (decimal n ++ (codes ": " ++ (refused_text why ++ codes "\n")))
-told n NoMemory = []
-
-abbrev pub is_taken : Outcome → Bool
-is_taken Taken = true
-is_taken (Refused why) = false
-is_taken NoMemory = false
+abbrev pub told : ℕ → Result (Unit {0}) Fault → List ℕ
+told n (Ok u) = []
+told n (Err (Refused why)) = codes "line " ++ (decimal n ++ (codes ": " ++ (refused_text why ++ codes "\n")))
+told n (Err NoMemory) = []
 
 -- P is a page, and `steps` says what a turn by its bytes makes of it; messages go from `old` to `new`, and ok says that nothing was left out
-module _ {P : Type 0} (steps : P → List ℕ → Outcome → P → Type 0) where
+module _ {P : Type 0} (steps : P → List ℕ → Result (Unit {0}) Fault → P → Type 0) where
   -- a turn of line n
   pub record TurnPlays (n : ℕ) (bs : List ℕ) (p q : P) (old new : List ℕ) (ok : Bool) : Type 0 where
-    pub outcome : Outcome
+    pub outcome : Result (Unit {0}) Fault
     pub step : steps p bs outcome q
     pub says : new ≡ old ++ told n outcome
-    pub is : ok ≡ is_taken outcome
+    pub is : ok ≡ is_ok outcome
 
-  -- line n, by what it is and the bytes of its turn
-  abbrev pub LinePlays : ℕ → Line → List ℕ → P → P → List ℕ → List ℕ → Bool → Type 0
-  LinePlays n Blank bs p q old new ok = (q ≡ p) × (new ≡ old) × (ok ≡ true)
-  LinePlays n Unknown bs p q old new ok = (q ≡ p) × (new ≡ old ++ not_understood n) × (ok ≡ false)
-  LinePlays n Turn bs p q old new ok = TurnPlays n bs p q old new ok
+  -- line n, by what it says
+  abbrev pub LinePlays : ℕ → Says → P → P → List ℕ → List ℕ → Bool → Type 0
+  LinePlays n blank p q old new ok = (q ≡ p) × (new ≡ old) × (ok ≡ true)
+  LinePlays n unknown p q old new ok = (q ≡ p) × (new ≡ old ++ not_understood n) × (ok ≡ false)
+  LinePlays n (turn bs) p q old new ok = TurnPlays n bs p q old new ok
 
   -- a line and then others
   pub record BothPlay (First : P → List ℕ → Bool → Type 0) (Rest : P → List ℕ → Bool → Type 0) (ok : Bool) : Type 0 where
@@ -63,4 +56,4 @@ module _ {P : Type 0} (steps : P → List ℕ → Outcome → P → Type 0) wher
   abbrev pub Plays : ℕ → List (List ℕ) → P → P → List ℕ → List ℕ → Bool → Type 0
   Plays n [] p q old new ok = (q ≡ p) × (new ≡ old) × (ok ≡ true)
   Plays n (l ∷ ls) p q old new ok =
-      BothPlay (λ m said a. LinePlays n (understood l).0 (understood l).1 p m old said a) (λ m said b. Plays (n + 1) ls m q said new b) ok
+      BothPlay (λ m said a. LinePlays n (understood l) p m old said a) (λ m said b. Plays (n + 1) ls m q said new b) ok

@@ -1,5 +1,5 @@
 -- The forms of command lines: the table, what a field's word means and how it is written. Assumes nothing.
-use Rattle.std.specs.Prelude.{ℕ, ◌+◌, ◌*◌, ◌/◌, ◌%◌, Bool, cond, List, [], ◌∷◌, length, take, drop, Some, None, codes, decimal, Option, ◌==◌, slice_index}
+use Rattle.std.specs.Prelude.{ℕ, ◌+◌, ◌*◌, ◌/◌, ◌%◌, if◌then◌else◌, List, [], ◌∷◌, length, take, drop, Some, None, codes, decimal, Option, ◌==◌, slice_index}
 use Rattle.std.specs.Option.{option_map}
 use Rattle.std.specs.Fmt.{option_append}
 use Rattle.words.specs.declared.forms.Field.{Field}
@@ -35,11 +35,6 @@ table =
 abbrev pub row_of : Form → Row
 row_of f = record { name = f.name.now; head = f.head.now; fields = f.fields.now }
 
--- the first row that passes a test
-abbrev pub find : (Row → Bool) → List Row → Option Row
-find test [] = None
-find test (r ∷ rs) = cond (test r) (Some r) (find test rs)
-
 -- how many bytes a field has, and fields together
 abbrev pub size : Field → ℕ
 size Byte = 1
@@ -58,7 +53,7 @@ two n = n % 256 ∷ n / 256 ∷ []
 abbrev pub field_bytes : Field → List ℕ → Option (List ℕ)
 field_bytes Byte w = one (number_of 255 w)
 field_bytes Short w = option_map two (number_of 65535 w)
-field_bytes Colour w = cond (length w == 8) (hex_bytes w) None
+field_bytes Colour w = if length w == 8 then hex_bytes w else None
 
 -- those of the words of a list of fields, as many as there are fields
 abbrev pub fields_bytes : List Field → List (List ℕ) → Option (List ℕ)

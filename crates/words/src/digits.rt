@@ -3,6 +3,7 @@ ghost use Rattle.std.specs.Prelude.{◌≡◌, ◌<◌, ◌≤◌, [], ◌∷◌
 ghost use Rattle.std.specs.Char.{digit_char};
 ghost use Rattle.words.specs.Digits.{number_of, hex_pair, hex};
 
+use itoa::Buffer;
 use pixel::Pixel;
 use std::alloc::AllocError;
 
@@ -11,6 +12,7 @@ pub(crate) fn read_number(word: &[u8], most: u16) -> Option<u32>
     ensures is { result ≡ number_of most word.now }
     ensures bound { IfSome result (λ n. n ≤ most) }
 {
+    // std's parse takes a sign, and so reads other words
     let mut n: u32 = 0;
     for b in word {
         let digit = char::from(*b).to_digit(10)?;
@@ -36,7 +38,7 @@ fn hex_digit(n: u8) -> u8
     requires { n < 16 }
     ensures { result ≡ digit_char n }
 {
-    if n < 10 { b'0' + n } else { b'a' + (n - 10) }
+    char::from_digit(n as u32, 16).unwrap() as u8
 }
 
 // Six hex digits behind the text, red, green and blue; or nothing where there is no memory.
@@ -63,19 +65,10 @@ pub(crate) fn write_hex(bytes: &[u8], out: &mut Vec<u8>) -> Result<(), AllocErro
     Ok(())
 }
 
-// The decimal digits of a number behind the text, or nothing where there is no memory. No number has more than 20.
+// The decimal digits of a number behind the text, or nothing where there is no memory.
 pub fn write_number(n: usize, out: &mut Vec<u8>) -> Result<(), AllocError>
     ensures { out.new.items ≡ (if is_ok result then out.old.items ++ decimal n else out.old.items) }
 {
-    let mut digits = [0; 20];
-    let mut at = 20;
-    let mut left = n;
-    while left >= 10 {
-        at -= 1;
-        digits[at] = b'0' + (left % 10) as u8;
-        left /= 10;
-    }
-    at -= 1;
-    digits[at] = b'0' + left as u8;
-    out.extend_from_slice(&digits[at..])
+    let mut buffer = Buffer::new();
+    out.extend_from_slice(buffer.format(n).as_bytes())
 }

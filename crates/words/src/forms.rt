@@ -3,7 +3,7 @@ ghost use Rattle.std.specs.Prelude.{◌≡◌};
 ghost use Rattle.words.specs.Table.{size};
 
 // What one word behind a command's name writes.
-#[derive(Clone, Copy)]
+#[derive(Clone, Copy, Debug, PartialEq, Eq)]
 pub enum Field {
     // one byte, in decimal
     Byte,
@@ -14,7 +14,7 @@ pub enum Field {
 }
 
 // A command: its name, the bytes that its turn begins with, and what follows them.
-#[derive(Clone, Copy)]
+#[derive(Clone, Copy, Debug, PartialEq, Eq)]
 pub struct Form<'a> {
     pub name: &'a [u8],
     pub head: &'a [u8],

@@ -24,10 +24,9 @@ fn write_cell(format: Format, x: usize, p: Pixel, out: &mut Vec<u8>) -> Result<(
     match format {
         Format::Ppm => out.extend_from_slice(&[p.red, p.green, p.blue]),
         Format::Text => {
-            if x == 0 {
-                return write_colour(p, out);
+            if x > 0 {
+                out.push(b' ')?;
             }
-            out.push(b' ')?;
             write_colour(p, out)
         }
     }
@@ -59,24 +58,7 @@ fn write_cells<P: Shows>(
     Ok(())
 }
 
-// Adds the first `high` rows.
-fn write_rows<P: Shows>(
-    format: Format,
-    page: &P,
-    wide: usize,
-    high: usize,
-    out: &mut Vec<u8>,
-) -> Result<(), AllocError>
-    ensures { OnOk result (out.new.items ≡ out.old.items ++ rows format wide high (P.seen page.now)) }
-{
-    for y in 0..high {
-        write_cells(format, page, wide, y, out)?;
-        end_row(format, out)?;
-    }
-    Ok(())
-}
-
-// The bytes that are printed of a page.
+// The bytes that are printed of a page, whatever its sides: also of one that is larger than a Size.
 pub fn print<P: Shows>(
     heap: Global,
     format: Format,
@@ -86,9 +68,10 @@ pub fn print<P: Shows>(
 ) -> Result<Vec<u8>, AllocError>
     ensures { IfOk result (λ out. out.items ≡ printed format wide high (P.seen page.now)) }
 {
-    let mut out = Vec::new(heap);
-    let text = heading(heap, format, wide, high)?;
-    out.extend_from_slice(text.as_bytes())?;
-    write_rows(format, page, wide, high, &mut out)?;
+    let mut out = heading(heap, format, wide, high)?.into_bytes();
+    for y in 0..high {
+        write_cells(format, page, wide, y, &mut out)?;
+        end_row(format, &mut out)?;
+    }
     Ok(out)
 }

@@ -4,7 +4,7 @@ ghost use Rattle.pixel.specs.declared.Pixel.{Pixel};
 
 use pixel::Pixel;
 
-#[derive(Clone, Copy)]
+#[derive(Clone, Copy, Debug, PartialEq, Eq)]
 pub enum Format {
     // `page W H`, and then each row: colours of six hex digits with one space between
     Text,
@@ -12,7 +12,7 @@ pub enum Format {
     Ppm,
 }
 
-// A page that says what is seen at each column and row.
+// A page that says what is seen at each column and row, which are two numbers as in the editor's own `show`.
 pub trait Shows {
     ghost seen: { Self → ℕ → ℕ → Pixel };
 

@@ -1,7 +1,7 @@
 // The table of forms, and the rows that fit a name or a turn.
-ghost use Rattle.std.specs.Prelude.{◌≡◌, true, map, IfSome, ◌==◌};
+ghost use Rattle.std.specs.Prelude.{◌≡◌, true, map, IfSome, find, ◌==◌};
 ghost use Rattle.std.specs.Option.{option_map};
-ghost use Rattle.words.specs.Table.{table, find, row_of, sizes};
+ghost use Rattle.words.specs.Table.{table, row_of, sizes};
 ghost use Rattle.words.specs.Lines.{named, fits_row};
 
 use crate::forms::{Field, Form};
@@ -96,25 +96,20 @@ fn is_named(form: &Form, name: &[u8]) -> bool
 pub fn find_named(forms: &[Form<'static>], name: &[u8]) -> Option<Form<'static>>
     ensures { option_map row_of result ≡ find (named name.now) (map row_of forms.now) }
 {
-    for form in forms {
-        if is_named(form, name) {
-            return Some(*form);
-        }
-    }
-    None
+    forms.iter().find(|form| is_named(form, name)).copied()
 }
 
 // Whether there are just as many bytes left as the fields have.
 fn have_size(fields: &[Field], bytes: usize) -> bool
     ensures { result ≡ (bytes == sizes fields.now) }
 {
+    // a sum of the sizes could pass a usize, for all that the types say
     let mut left = bytes;
     for field in fields {
-        let size = field.size();
-        if left < size {
+        let Some(rest) = left.checked_sub(field.size()) else {
             return false;
-        }
-        left -= size;
+        };
+        left = rest;
     }
     left == 0
 }
@@ -131,10 +126,5 @@ pub fn find_fitting(forms: &[Form<'static>], turn: &[u8]) -> Option<Form<'static
     ensures is { option_map row_of result ≡ find (fits_row turn.now) (map row_of forms.now) }
     ensures fits { IfSome result (λ form. fits_row turn.now (row_of form) ≡ true) }
 {
-    for form in forms {
-        if fits(form, turn) {
-            return Some(*form);
-        }
-    }
-    None
+    forms.iter().find(|form| fits(form, turn)).copied()
 }

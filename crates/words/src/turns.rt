@@ -16,7 +16,7 @@ fn write_field(field: Field, bytes: &[u8], out: &mut Vec<u8>) -> Result<(), Allo
 {
     match field {
         Field::Byte => write_number(bytes[0] as usize, out),
-        Field::Short => write_number(bytes[0] as usize + 256 * bytes[1] as usize, out),
+        Field::Short => write_number(u16::from_le_bytes([bytes[0], bytes[1]]) as usize, out),
         Field::Colour => write_hex(&bytes[..4], out),
     }
 }
@@ -30,8 +30,7 @@ fn write_fields(fields: &[Field], bytes: &[u8], out: &mut Vec<u8>) -> Result<(),
     for field in fields {
         out.push(b' ')?;
         write_field(*field, rest, out)?;
-        let (_, after) = rest.split_at(field.size());
-        rest = after;
+        rest = &rest[field.size()..];
     }
     Ok(())
 }
@@ -43,9 +42,8 @@ pub fn write_turn(heap: Global, turn: &[u8]) -> Result<Vec<u8>, AllocError>
     let mut line = Vec::new(heap);
     match find_fitting(forms(), turn) {
         Some(form) => {
-            let (_, rest) = turn.split_at(form.head.len());
             line.extend_from_slice(form.name)?;
-            write_fields(form.fields, rest, &mut line)?;
+            write_fields(form.fields, &turn[form.head.len()..], &mut line)?;
         }
         None => {
             line.extend_from_slice(b"bytes ")?;

@@ -1,22 +1,19 @@
 // Each expected text is worked out by hand.
-use codec::read::number_and_place;
 use reference::shown::lent_for;
-use reference::state::{Engine, Fault};
+use reference::state::Engine;
 use std::alloc::Global;
 use std::process::Abort;
 use std::test::Fail;
 use words::script::play;
 use words::showing::Format;
+use words::taking::Fault;
 
 const RED: &str = "page 3 1\nffffff ff0000 ffffff\n";
 
 const WHITE: &str = "page 3 1\nffffff ffffff ffffff\n";
 
 fn begun(heap: Global, wide: usize, high: usize) -> Result<Engine, Fail> {
-    match Engine::begin(heap, wide, high) {
-        Ok(engine) => Ok(engine),
-        Err(_) => Err(Fail::new("the size is refused")),
-    }
+    Engine::begin(heap, wide, high).map_err(|_| Fail::new("the size is refused"))
 }
 
 // A file that is opened for pages of at most 64 by 64.
@@ -50,9 +47,8 @@ fn refuses(
 ) -> Result<(), Fail> {
     match opened(heap, file)? {
         Err(Fault::Refused(why)) => {
-            let (n, p) = number_and_place(why);
-            assert_eq!(rt; n, number);
-            assert_eq!(rt; p, place);
+            assert_eq!(rt; why.number(), number);
+            assert_eq!(rt; why.place(), place);
             Ok(())
         }
         _ => Err(Fail::new("the file is not refused")),
@@ -104,14 +100,12 @@ fn kept_in_a_file(rt: HostRuntime) -> Result<(), Fail> {
         file.as_slice()
             == b"PAGE\x03\x00\x01\x00\x01\x00\x00\x00\x01\x00\x00\x00\x09\x01\x00\x00\x00\x01\x00\x01\x00\x0c\xff\x00\x00\xff".as_slice()
     );
-    match opened(heap, file.as_slice())? {
-        Err(_) => Err(Fail::new("the file is refused")),
-        Ok(mut again) => {
-            plays(&rt, heap, &mut again, "", "", WHITE)?;
-            plays(&rt, heap, &mut again, "redo", "", RED)?;
-            plays(&rt, heap, &mut again, "undo", "", WHITE)
-        }
-    }
+    let Ok(mut again) = opened(heap, file.as_slice())? else {
+        return Err(Fail::new("the file is refused"));
+    };
+    plays(&rt, heap, &mut again, "", "", WHITE)?;
+    plays(&rt, heap, &mut again, "redo", "", RED)?;
+    plays(&rt, heap, &mut again, "undo", "", WHITE)
 }
 
 #[test]

@@ -4,10 +4,7 @@ use Rattle.codec.specs.Meaning.{edit_of}
 use Rattle.canvas.proofs.Unbuilt.{others_unbuilt, not_known}
 use Rattle.canvas.proofs.applying.apply.Goals as goal
 
-pub returns-in-AddLayer : goal.returns-in-AddLayer
-unfolding kind
-returns-in-AddLayer c = search rules
-
+-- an edit of the layers writes no bytes
 pub returns-in-DropLayer : goal.returns-in-DropLayer
 unfolding kind
 returns-in-DropLayer c = let so = c.drop_layer.ensures c.args.tiles.now in search rules
@@ -31,26 +28,6 @@ returns-in-SetOpacity c = let so = c.set_opacity.ensures c.args.tiles.now in sea
 pub returns-in-SetVisible : goal.returns-in-SetVisible
 unfolding kind
 returns-in-SetVisible c = let so = c.set_visible.ensures c.args.tiles.now in search rules
-
-pub returns-in-MergeDown : goal.returns-in-MergeDown
-unfolding kind
-returns-in-MergeDown c = search rules
-
-pub returns-in-SelectAll : goal.returns-in-SelectAll
-unfolding kind
-returns-in-SelectAll c = search rules
-
-pub returns-in-SelectRect : goal.returns-in-SelectRect
-unfolding kind
-returns-in-SelectRect c = search rules
-
-pub returns-in-SelectInverse : goal.returns-in-SelectInverse
-unfolding kind
-returns-in-SelectInverse c = search rules
-
-pub returns-in-Fill : goal.returns-in-Fill
-unfolding kind
-returns-in-Fill c = search rules
 
 -- an edit of another kind is not built
 pub returns-in-SelectSimilar : goal.returns-in-SelectSimilar

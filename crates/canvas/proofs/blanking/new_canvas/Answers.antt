@@ -1,13 +1,14 @@
-use Rattle.std.proofs.Common.{◌≡◌, ℕ, get_or, set, ◌∙◌, arith, length-set, get_or-set_other, get_or-set_same, below_more}
+use Rattle.std.proofs.Common.{rules, ◌≡◌, ℕ, ◌<◌, ◌%◌, slice_index_or, refl, sym, ap, ◌∙◌, subst, arith}
+use Rattle.canvas.specs.declared.state.Layer.{Layer}
 use Rattle.canvas.specs.View.{fresh}
-use Rattle.canvas.specs.declared.state.Layer.{Layer as Entry}
 use Rattle.canvas.proofs.blanking.new_canvas.Goals as goal
 
-pub loop-k-preserved : goal.loop-k-preserved
-loop-k-preserved c =
-    let ls = c.loop-k.layers in
-    let k = c.loop-k.k in
-    let P : ℕ → Type 0 = λ j. (d : Entry) → get_or (set ls k (fresh k)) j d ≡ fresh j in (
-      length-set ls k (fresh k) ∙ c.loop-k.invariant.0,
-      λ j d l. below_more P k (λ i h e. get_or-set_other ls k i (fresh k) e (λ x. omega arith) ∙ c.loop-k.invariant.1 i e h) (λ e. get_or-set_same ls k (fresh k) e (omega arith)) j l d,
-    )
+pub invariant_of-result : goal.invariant_of-result
+invariant_of-result c =
+    let own : (k : ℕ) (d : Layer) → k < 64 → slice_index_or c.from_fn.result k d ≡ fresh k = λ k d l. let so = c.from_fn.ensures.items.at k d l in let small : k % 256 ≡ k = omega arith in search rules in
+    record { full = c.from_fn.ensures.items.long; counted = (omega arith, omega arith); planes = λ k d l. subst (λ (e : Layer). e.plane < 64) (sym (own k d l)) l; distinct = λ p h. sym (ap (λ (e : Layer). e.plane) (own p.0 p.2 h.0)) ∙ h.2 ∙ ap (λ (e : Layer). e.plane) (own p.1 p.2 h.1) }
+
+pub returns : goal.returns
+returns c =
+    let own : (k : ℕ) (d : Layer) → k < 64 → slice_index_or c.from_fn.result k d ≡ fresh k = λ k d l. let so = c.from_fn.ensures.items.at k d l in let small : k % 256 ≡ k = omega arith in search rules in
+    record { size_is = refl; one_layer = refl; lowest = refl; own_planes = own }

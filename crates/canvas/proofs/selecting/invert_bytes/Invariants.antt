@@ -1,6 +1,6 @@
-use Rattle.std.proofs.Common.{◌+◌, ◌-◌, get_or}
-use Rattle.pixel.specs.Bytes.{BytesTo}
+use Rattle.std.proofs.Common.{◌≡◌, ℕ, ◌-◌, ◌<◌, ◌≤◌, get_or}
 use Rattle.canvas.proofs.selecting.invert_bytes.Given as goal
 
-abbrev pub invariant-loop-k : goal.invariant-loop-k
-invariant-loop-k l = BytesTo (λ k. 255 - get_or l.initial.tiles (l.at + k) 0) l.at l.k l.initial.tiles l.tiles
+-- the bytes before the index are turned, and the others are as they were
+abbrev pub invariant-loop-byte : goal.invariant-loop-byte
+invariant-loop-byte l = ((k : ℕ) → k < l.byte-index → get_or l.byte-items k 0 ≡ 255 - get_or l.initial.byte-items k 0) × ((k : ℕ) → l.byte-index ≤ k → get_or l.byte-items k 0 ≡ get_or l.initial.byte-items k 0)

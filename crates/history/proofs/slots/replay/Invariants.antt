@@ -7,4 +7,4 @@ use Rattle.history.proofs.slots.replay.Given as goal
 -- the page is what the first k edits make of the blank one
 abbrev pub invariant-loop-k : goal.invariant-loop-k
 invariant-loop-k l =
-    (l.canvas.wide ≡ l.wide) × (l.canvas.high ≡ l.high) × Agree (view l.canvas l.tiles) (made_by l.wide l.high (latest_in l.turns l.k))
+    (l.canvas.size ≡ l.fn.size) × Agree (view l.canvas l.tiles) (made_by l.fn.size.wide l.fn.size.high (latest_in l.turns l.k))

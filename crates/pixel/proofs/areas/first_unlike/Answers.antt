@@ -1,13 +1,14 @@
-use Rattle.std.proofs.Common.{◌+◌, ◌*◌, sym, arith, below_more}
-use Rattle.pixel.proofs.Differing.{same_true, same_false}
+use Rattle.std.proofs.Common.{rules, ◌≡◌, ℕ, ◌+◌, ◌*◌, subst, sym}
+use Rattle.std.proofs.lemmas.Iterator.{first_from_Range}
+use Rattle.pixel.specs.Bytes.{pixel_at}
+use Rattle.pixel.specs.Pictures.{FirstUnlike}
+use Rattle.pixel.proofs.Differing.{first_found}
 use Rattle.pixel.proofs.areas.first_unlike.Goals as goal
-
-pub returns-then-not-is_same : goal.returns-then-not-is_same
-returns-then-not-is_same c =
-    record { few = omega arith; alike = c.loop-k.invariant; unlike = λ _. same_false c.args.bytes.now (c.args.at + 4 * c.loop-k.k) (c.args.by + 4 * c.loop-k.k) (sym c.if-not-is_same.ensures) }
-
-pub loop-k-preserved : goal.loop-k-preserved
-loop-k-preserved c = below_more _ _ c.loop-k.invariant (same_true c.args.bytes.now (c.args.at + 4 * c.loop-k.k) (c.args.by + 4 * c.loop-k.k) (sym c.if-not-is_same.ensures))
+use borrow.Author.Tests.{tests}
 
 pub returns : goal.returns
-returns c = record { few = omega arith; alike = λ k l. c.loop-k.invariant k (omega arith); unlike = λ l. absurd (omega arith) }
+returns c =
+    let xs = c.args.bytes.now in
+    let same : ℕ → Type 0 = λ k. pixel_at xs (c.args.at + 4 * k) ≡ pixel_at xs (c.args.by + 4 * k) in
+    subst (FirstUnlike xs c.args.at c.args.by c.args.n) (sym c.unwrap_or.ensures)
+    (first_found xs c.args.at c.args.by c.args.n c.find.result (first_from_Range _ _ _ c.find.result (λ k. same k → ⊥) same c.find.ensures.ran (λ x q k. search (rules, tests)) (λ x q k. search (rules, tests))))

@@ -1,28 +1,9 @@
--- What the mode makes is the definition at the mode's number, and that fits whatever the mode.
+-- What the mode makes is the definition at the mode's number.
 use Rattle.std.proofs.Common.{rules}
 use Rattle.pixel.specs.Channels.{blended, at_most_255}
+use Rattle.pixel.proofs.channels.blend_of.Goals.{in-Normal, in-Multiply, in-Screen, in-Darken, in-Lighten, in-Add}
 use Rattle.pixel.proofs.channels.blend_of.Goals as goal
 
-pub returns-in-Normal : goal.returns-in-Normal
-unfolding blended
-returns-in-Normal c = search rules
-
-pub returns-in-Multiply : goal.returns-in-Multiply
-unfolding blended
-returns-in-Multiply c = search rules
-
-pub returns-in-Screen : goal.returns-in-Screen
-unfolding blended
-returns-in-Screen c = search rules
-
-pub returns-in-Darken : goal.returns-in-Darken
-unfolding blended
-returns-in-Darken c = search rules
-
-pub returns-in-Lighten : goal.returns-in-Lighten
-unfolding blended
-returns-in-Lighten c = search rules
-
-pub returns-in-Add : goal.returns-in-Add
+pub returns : goal.returns
 unfolding blended at_most_255
-returns-in-Add c = search rules
+returns c = elim c.match-mode.branch [ in-Normal w ↦ search rules | in-Multiply w ↦ search rules | in-Screen w ↦ search rules | in-Darken w ↦ search rules | in-Lighten w ↦ search rules | in-Add w ↦ search rules ]

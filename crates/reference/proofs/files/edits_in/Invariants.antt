@@ -1,9 +1,6 @@
-use Rattle.std.proofs.Common.{◌-◌, ◌≤◌, vec_items, vec_len}
+use Rattle.std.proofs.Common.{vec_items}
 use Rattle.reference.proofs.Opening.{SoFar}
 use Rattle.reference.proofs.files.edits_in.Given as goal
 
-abbrev pub invariant-loop-edit : goal.invariant-loop-edit
-invariant-loop-edit l = SoFar l.bytes (vec_len l.edits) l.at (vec_items l.edits) × (vec_len l.edits ≤ l.count)
-
-abbrev pub decreases-loop-edit : goal.decreases-loop-edit
-decreases-loop-edit l = l.count - vec_len l.edits
+abbrev pub invariant-loop : goal.invariant-loop
+invariant-loop l = SoFar l.bytes l.counter l.at (vec_items l.edits)

@@ -1,13 +1,9 @@
 -- Each turn joins one tile to those built.
-use Rattle.std.proofs.Common.{◌≡◌, ℕ, ◌+◌, ◌/◌, subst, inl, inr, arith}
+use Rattle.std.proofs.Common.{◌≡◌, ◌+◌, ◌/◌, inl, inr, arith}
 use Rattle.std.proofs.lemmas.Bool.{cases_lt}
-use Rattle.tiles.specs.Places.{InBand, BuiltWhere}
-use Rattle.tiles.proofs.Kept.{where_none, where_join, tile_where, one_or_not}
+use Rattle.tiles.specs.Places.{InBand}
+use Rattle.tiles.proofs.Kept.{where_join, tile_where, one_or_not}
 use Rattle.tiles.proofs.rebuilding.rebuild_band.Goals as goal
-
-pub loop-tx-init : goal.loop-tx-init
-loop-tx-init c =
-    where_none c.args.canvas.now (InBand c.args.ty (c.args.area.left / 32) (c.args.area.left / 32)) c.args.tiles.now (λ x y d. omega (arith, d.1.0, d.1.1))
 
 pub loop-tx-preserved : goal.loop-tx-preserved
 loop-tx-preserved c =
@@ -20,8 +16,3 @@ loop-tx-preserved c =
     (λ x y e. (e.1, (omega (arith, e.0), omega (arith, e.0))))
     c.loop-tx.invariant
     (tile_where c.args.canvas.now tx c.args.ty c.loop-tx.tiles c.build_tile.new.tiles (omega arith) (omega arith) c.build_tile.ensures)
-
-pub returns : goal.returns
-returns c =
-    let e : c.loop-tx.tx ≡ (c.args.area.left + c.args.area.wide + 31) / 32 = omega arith in
-    subst (λ (n : ℕ). BuiltWhere (InBand c.args.ty (c.args.area.left / 32) n) c.args.canvas.now c.args.tiles.now c.loop-tx.tiles) e c.loop-tx.invariant

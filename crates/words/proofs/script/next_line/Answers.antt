@@ -1,27 +1,24 @@
-use Rattle.std.proofs.Common.{◌≡◌, ◌+◌, ◌≤◌, ◌∷◌, length, drop, sym, ap, ◌∙◌, ap₂, arith}
-use Rattle.std.proofs.lemmas.List.{drop_all, drop-drop, nil_from_length}
-use Rattle.std.proofs.lemmas.Bool.{eqb-true, eqb-false}
+use Rattle.std.proofs.Common.{◌+◌, ◌-◌, ◌<◌, ◌∷◌, eqb, length, take, drop, sym, ap, ◌∙◌, arith, rules, tests, length-drop}
+use Rattle.std.proofs.lemmas.List.{take_all}
+use Rattle.std.proofs.lemmas.Bool.{eqb-false}
+use Rattle.std.proofs.lemmas.Iterator.{YieldsList-from_slice}
+use Rattle.std.proofs.lemmas.Iterator.Search.{position_from_yields_List}
 use Rattle.words.specs.Script.{lines_of}
+use Rattle.words.proofs.Playing.{line_off, line_last}
 use Rattle.words.proofs.script.next_line.Goals as goal
 
-pub returns-then-is_empty : goal.returns-then-is_empty
-returns-then-is_empty c = ap lines_of (nil_from_length c.args.text.now (eqb-true _ _ (sym c.if-is_empty.ensures)))
-
-pub line_length-requires : goal.line_length-requires
-line_length-requires c = omega (arith, eqb-false (length c.args.text.now) 0 (sym c.if-is_empty.ensures))
-
-pub returns-then-is_empty-2 : goal.returns-then-is_empty-2
-returns-then-is_empty-2 c =
+pub returns-in-Some : goal.returns-in-Some
+returns-in-Some c =
     let xs = c.args.text.now in
-    let r = c.line_length.result in
-    let none : length c.split_at.result.1.now ≡ 0 = eqb-true _ _ (sym c.if-is_empty-2.ensures) in
-    let past : length xs ≤ r + 1 = omega (arith, c.split_at.ensures.back_len) in
-    let end : drop (r + 1) xs ≡ c.split_at.result.1.now = drop_all (r + 1) xs past ∙ sym (nil_from_length c.split_at.result.1.now none) in
-    (c.line_length.ensures.splits ∙ ap₂ (λ l m. l ∷ lines_of m) (sym c.split_at.ensures.front) end, omega (arith, eqb-false (length xs) 0 (sym c.if-is_empty.ensures)))
+    let end = c.in-Some.end in
+    let found = position_from_yields_List (λ b. eqb b 10) _ _ c.position.result c.position.ensures.ran (YieldsList-from_slice xs (cc)) (λ x b q k. search (rules, tests)) in
+    let off = line_off xs end (sym found ∙ c.in-Some.is) in
+    let rest = take_all (length xs - (end + 1)) (drop (end + 1) xs) (omega (arith, length-drop (end + 1) xs)) in
+    (off.1 ∙ ap (λ bs. take end xs ∷ lines_of bs) (sym rest), rw rest (rw (length-drop (end + 1) xs) (omega (arith, off.0))))
 
-pub returns : goal.returns
-returns c =
+pub returns-in-None : goal.returns-in-None
+returns-in-None c =
     let xs = c.args.text.now in
-    let r = c.line_length.result in
-    let after : drop (r + 1) xs ≡ c.split_at-2.result.1.now = sym (drop-drop 1 r xs) ∙ (ap (drop 1) (sym c.split_at.ensures.back) ∙ sym c.split_at-2.ensures.back) in
-    (c.line_length.ensures.splits ∙ ap₂ (λ l m. l ∷ lines_of m) (sym c.split_at.ensures.front) after, omega (arith, c.split_at.ensures.back_len, c.split_at-2.ensures.back_len))
+    let found = position_from_yields_List (λ b. eqb b 10) _ _ c.position.result c.position.ensures.ran (YieldsList-from_slice xs (cc)) (λ x b q k. search (rules, tests)) in
+    let some : 0 < length xs = omega (arith, eqb-false (length xs) 0 (sym c.if-is_empty.ensures)) in
+    (line_last xs some (sym found ∙ c.in-None.is), some)

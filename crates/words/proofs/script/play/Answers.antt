@@ -1,10 +1,7 @@
 use Rattle.std.proofs.Common.{◌+◌, string_bytes, arith}
 use Rattle.words.specs.Script.{lines_of}
-use Rattle.words.proofs.Playing.{onward_start, onward_step, onward_end}
+use Rattle.words.proofs.Playing.{onward_step, onward_end}
 use Rattle.words.proofs.script.play.Goals as goal
-
-pub loop-line-init : goal.loop-line-init
-loop-line-init g c = (omega arith, onward_start g.P.Takes.steps (lines_of c.args.script.now) c.args.page.now (string_bytes c.args.messages.now))
 
 pub loop-line-preserved : goal.loop-line-preserved
 loop-line-preserved g c = (

@@ -1,20 +1,15 @@
-use Rattle.std.proofs.Common.{sym, ◌∙◌}
+use Rattle.std.proofs.Common.{◌∙◌, ap, rules, tests}
+use Rattle.std.specs.Option.{option_map}
+use Rattle.std.proofs.lemmas.Iterator.{YieldsList-from_slice}
+use Rattle.std.proofs.lemmas.Iterator.Search.{find_from_yields_List}
+use Rattle.words.specs.declared.forms.Form.{Form}
+use Rattle.words.specs.Table.{row_of}
 use Rattle.words.specs.Lines.{fits_row}
-use Rattle.words.proofs.Rows.{find_here, find_on, find_none}
+use Rattle.words.proofs.Rows.{find_row}
 use Rattle.words.proofs.table.find_fitting.Goals as goal
 
-pub returns-then-fits : goal.returns-then-fits
-returns-then-fits c =
-    let passes = sym c.if-fits.ensures in
-    let here = find_here (fits_row c.args.turn.now) c.args.forms.now c.loop-form.form-index _ c.loop-form-test.true passes in
-    record { is = sym here ∙ c.loop-form.invariant; fits = passes }
-
-pub loop-form-preserved : goal.loop-form-preserved
-loop-form-preserved c =
-    let fails = sym c.if-fits.ensures in
-    sym (find_on (fits_row c.args.turn.now) c.args.forms.now c.loop-form.form-index _ c.loop-form-test.true fails) ∙ c.loop-form.invariant
-
-pub returns : goal.returns
-returns c =
-    let none = find_none (fits_row c.args.turn.now) c.args.forms.now c.loop-form.form-index c.loop-form-test.false in
-    record { is = sym none ∙ c.loop-form.invariant; fits = tt }
+pub returns-clause-is : goal.returns-clause-is
+returns-clause-is c =
+    let forms = c.args.forms.now in
+    let found = find_from_yields_List (λ (f : Form). fits_row c.args.turn.now (row_of f)) _ _ c.find.result c.find.ensures.ran (YieldsList-from_slice forms (cc)) (λ x b q k. search (rules, tests)) in
+    ap (option_map row_of) (c.copied.ensures ∙ found) ∙ find_row (fits_row c.args.turn.now) forms

@@ -1,20 +1,6 @@
-use Rattle.std.proofs.Common.{take, drop, vec_items, sym, ap, ◌∙◌, subst₂}
-use Rattle.std.specs.List.{AllByRecursion}
-use Rattle.std.proofs.ByRecursion.{All-take, All-drop}
-use Rattle.codec.specs.Meaning.{Held}
-use Rattle.reference.proofs.Keeping.{all_held}
+use Rattle.std.proofs.Common.{take, drop, vec_items, ap, ◌∙◌}
 use Rattle.reference.proofs.Texts.{text_pieces}
 use Rattle.reference.proofs.state.Engine.edits_text.Goals as goal
-
-pub write_lines-requires : goal.write_lines-requires
-write_lines-requires c =
-    let s = c.args.self.now in
-    subst₂ (λ b es. AllByRecursion (Held b) es) (sym c.as_slice-source.ensures.value) (sym (c.split_at.ensures.front ∙ ap (take s.done) c.as_slice.ensures.value)) (All-take _ s.done (vec_items s.edits) (all_held s))
-
-pub write_lines-requires-2 : goal.write_lines-requires-2
-write_lines-requires-2 c =
-    let s = c.args.self.now in
-    subst₂ (λ b es. AllByRecursion (Held b) es) (sym c.as_slice-source.ensures.value) (sym (c.split_at.ensures.back ∙ ap (drop s.done) c.as_slice.ensures.value)) (All-drop _ s.done (vec_items s.edits) (all_held s))
 
 pub returns : goal.returns
 returns c =

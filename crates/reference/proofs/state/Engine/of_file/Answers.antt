@@ -1,7 +1,6 @@
 use Rattle.std.proofs.Common.{◌≡◌, ℕ, ◌+◌, List, [], length, vec_items, refl, ap, subst, arith}
 use Rattle.page.specs.History.{in_order}
 use Rattle.reference.specs.Filing.{Listed}
-use Rattle.reference.proofs.Listing.{good_built, good_reach, good_fits}
 use Rattle.reference.proofs.Opening.{all_long, done_means, undone_means, all_opened}
 use Rattle.reference.proofs.state.Engine.of_file.Goals as goal
 
@@ -9,20 +8,20 @@ pub invariant_of-result : goal.invariant_of-result
 invariant_of-result c =
     let bs = vec_items c.args.file in
     let f = c.args.head in
-    let es = vec_items c.in-Ok.edits in
+    let es = vec_items c.in_ok-edits.edits in
     let taken = c.requires.1 in
-    let so = subst (λ (b : List ℕ). Listed b (f.done + f.undone) es) c.as_slice.ensures.value c.in-Ok.ensures in
+    let so = subst (λ (b : List ℕ). Listed b (f.done + f.undone) es) c.as_slice.ensures.value c.in_ok-edits.ensures in
     let good = all_opened bs c.requires.0 f taken es so in
     let long : length es ≡ f.done + f.undone = all_long bs c.requires.0 f taken es so in
-    let size = c.in-Ok.edits.ok.0 in
-    record { sized = (taken.is_file.wide.0, taken.is_file.wide.1, taken.is_file.high.0, taken.is_file.high.1); counted = (omega arith, omega arith, taken.enough.few); kinds = good_built bs es good; reaches = good_reach bs es good; fit = good_fits bs es good }
+    let size = c.in_ok-edits.edits.ok.0 in
+    record { counted = (omega arith, omega arith, taken.enough.few); good = good }
 
-pub returns-in-Ok : goal.returns-in-Ok
-returns-in-Ok c =
+pub returns : goal.returns
+returns c =
     let bs = vec_items c.args.file in
     let f = c.args.head in
-    let es = vec_items c.in-Ok.edits in
-    let so = subst (λ (b : List ℕ). Listed b (f.done + f.undone) es) c.as_slice.ensures.value c.in-Ok.ensures in
+    let es = vec_items c.in_ok-edits.edits in
+    let so = subst (λ (b : List ℕ). Listed b (f.done + f.undone) es) c.as_slice.ensures.value c.in_ok-edits.ensures in
     record {
       wide_is = refl;
       high_is = refl;

@@ -1,6 +1,0 @@
-use Rattle.std.proofs.Common.{◌≡◌, ℕ, ◌+◌, ◌*◌, ◌<◌}
-use Rattle.pixel.specs.Bytes.{pixel_at}
-use Rattle.pixel.proofs.areas.first_unlike.Given as goal
-
-abbrev pub invariant-loop-k : goal.invariant-loop-k
-invariant-loop-k l = (k : ℕ) → k < l.k → pixel_at l.bytes (l.at + 4 * k) ≡ pixel_at l.bytes (l.by + 4 * k)
