@@ -10,15 +10,15 @@ use pixel::Pixel;
 use pixel::pixels::{lerp_pixel, read_pixel, write_pixel};
 
 // The n pixels from `at` on, filled by how much each is selected by the bytes from `mask` on.
-// A loop of its own: step_pixels has no such bytes, and a closure to read them needs them lent apart from the pixels.
+// Not step_pixels, whose step is not told which pixel it has, and so not which byte of the selection.
 fn fill_pixels(tiles: &mut [u8], at: usize, mask: usize, n: usize, p: Pixel)
     requires { (at + 4 * n ≤ mask) × (mask + n ≤ length tiles.old) }
     ensures { PixelsTo (λ k. pixel_lerp (slice_index tiles.old (mask + k)) p (pixel_at tiles.old (at + 4 * k))) at n tiles.old tiles.new }
 {
-    for k in 0..n {
-        let by = tiles[mask + k];
-        let old = read_pixel(tiles, at + 4 * k);
-        write_pixel(tiles, at + 4 * k, lerp_pixel(by, p, old));
+    let (planes, rest) = tiles.split_at_mut(mask);
+    for (k, by) in rest[..n].iter().enumerate() {
+        let old = read_pixel(planes, at + 4 * k);
+        write_pixel(planes, at + 4 * k, lerp_pixel(*by, p, old));
     }
 }
 

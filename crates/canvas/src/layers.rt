@@ -10,7 +10,7 @@ use pixel::modes::Mode;
 use pixel::runs::set_pixels;
 
 // The entry at `hi` goes down to `lo`, and those from there on one up.
-// Not one function with raise_entry: that would take a direction, and be longer than the two.
+// Two functions and not one with a direction, which would be longer than both.
 fn lower_entry(layers: &mut [Layer; 64], lo: usize, hi: usize)
     requires { (lo ≤ hi) × (hi < 64) }
     ensures { Reordered (from_lowered lo hi) layers.old layers.new }
@@ -93,6 +93,7 @@ impl Canvas {
     }
 
     // The active layer's blend mode, if there is one of this number.
+    // This and the next two are three functions: each sets a field of its own kind by a test of its own.
     pub fn set_mode(&mut self, m: u8)
         ensures { (xs : List ℕ) → LayersEdited self.old (set_mode m) xs self.new xs }
     {

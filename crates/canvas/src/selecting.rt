@@ -18,7 +18,7 @@ fn columns_of(rect: Rect, wide: usize, j: usize) -> Range<usize>
 {
     let left = usize::from(rect.x);
     let top = usize::from(rect.y);
-    if j < top || j >= top + usize::from(rect.height) {
+    if !(top..top + usize::from(rect.height)).contains(&j) {
         return 0..0;
     }
     left.min(wide)..wide.min(left + usize::from(rect.width))
@@ -38,7 +38,7 @@ fn select_rows(tiles: &mut [u8], at: usize, size: Size, rect: Rect)
     requires { at + size.wide * size.high ≤ length tiles.old }
     ensures { RowsTo (λ i j. mask_of (in_rect rect i j)) at size.wide size.high tiles.old tiles.new }
 {
-    // by its number, which says what of the row is in the rectangle
+    // Rows by their numbers: the library's chunks_exact_mut says nothing of what the whole slice ends as.
     for j in 0..size.high {
         let columns = columns_of(rect, size.wide, j);
         select_columns(tiles, at + j * size.wide, size.wide, columns);

@@ -6,7 +6,7 @@ use pixel::modes::Mode;
 use pixel::sizes::Size;
 
 // A layer: the plane of the lent memory that holds its pixels, and how it is laid on what is below.
-// That the plane is one of the 64 is said of a canvas and not here, since definitions write down layers with any.
+// `plane < 64` is a ghost field of Canvas and not of Layer, since the definitions make layers with any plane.
 #[derive(Clone, Copy, Debug, PartialEq, Eq)]
 pub struct Layer {
     pub plane: u8,

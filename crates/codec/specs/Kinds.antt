@@ -1,5 +1,5 @@
 -- The kinds of edits that there are, and those that are built yet: one place, for code and contracts. Assumes nothing.
-use Rattle.std.specs.Prelude.{◌≡◌, ℕ, ◌<◌, Bool, ◌||◌, ◌==◌, Result, MatchResult, nat_lt}
+use Rattle.std.specs.Prelude.{◌≡◌, ℕ, ◌<◌, Bool, ◌||◌, List, ◌++◌, codes, decimal, ◌==◌, Result, MatchResult, nat_lt}
 use Rattle.codec.specs.declared.kinds.Kind.{Kind}
 use Rattle.codec.specs.declared.kinds.Kind.TheVariants.{AddLayer, DropLayer, ChooseLayer, RaiseLayer, SetMode, SetOpacity, SetVisible, MergeDown, SelectAll, SelectRect, SelectSimilar, SelectInverse, Fill, Stroke, ApplyFilter, Copy, Paste}
 use Rattle.codec.specs.declared.kinds.FilterKind.{FilterKind}
@@ -43,3 +43,7 @@ filter_number Edges = 3
 
 abbrev pub FilterKindOf : ℕ → Result FilterKind UnknownKind → Type 0
 FilterKindOf byte r = MatchResult r (λ k. filter_number k ≡ byte) (λ e. (e.0 ≡ byte) × (3 < byte))
+
+-- what is said of a byte that writes no kind
+abbrev pub unknown_text : UnknownKind → List ℕ
+unknown_text e = codes "no kind has the number " ++ decimal e.0

@@ -1,5 +1,5 @@
 -- Where an edit of any kind ends in bytes, or why there is none, and which one it is. Assumes nothing.
-use Rattle.std.specs.Prelude.{◌≡◌, ℕ, ◌+◌, ◌*◌, ◌≤◌, if◌then◌else◌, List, [], ◌∷◌, length, Ok, Err, Result, ◌==◌, nat_le, nat_lt, slice_index, slice_index_or}
+use Rattle.std.specs.Prelude.{◌≡◌, ℕ, ◌+◌, ◌*◌, ◌<◌, ◌≤◌, ⊤, if◌then◌else◌, List, [], ◌∷◌, length, Ok, Err, Result, MatchResult, ◌==◌, nat_le, nat_lt, slice_index, slice_index_or}
 use Rattle.pixel.specs.Bytes.{pixel_at}
 use Rattle.codec.specs.declared.edits.Edit.{Edit}
 use Rattle.codec.specs.declared.edits.Edit.TheVariants.{AddLayer, DropLayer, ChooseLayer, RaiseLayer, SetMode, SetOpacity, SetVisible, MergeDown, SelectAll, SelectRect, SelectSimilar, SelectInverse, Fill, Stroke, ApplyFilter, Copy, Paste}
@@ -15,6 +15,10 @@ End = Result ℕ Refusal
 -- what comes where there are n bytes from `at` on
 abbrev pub need : List ℕ → ℕ → ℕ → End → End
 need bs at n e = if nat_le (at + n) (length bs) then e else Err (Ends (length bs))
+
+-- whether there are, as a result
+abbrev pub Needs : List ℕ → ℕ → ℕ → Result ⊤ Refusal → Type 0
+Needs bs at n r = MatchResult r (λ _. at + n ≤ length bs) (λ why. (length bs < at + n) × (why ≡ Ends (length bs)))
 
 -- how many bytes of each kind stand before what its length depends on
 abbrev pub heads : List ℕ

@@ -31,7 +31,8 @@ impl Filter {
     }
 }
 
-// A rectangle of pixels: its left column and top row, its width and height. It may reach beyond the page.
+// A rectangle of pixels: its left column and top row, its width and height.
+// Not pixel's `Area`: its numbers have 16 bits, as a file has them, and it may reach beyond the page.
 #[derive(Clone, Copy, Debug, PartialEq, Eq)]
 pub struct Rect {
     pub x: u16,
@@ -73,7 +74,8 @@ pub enum Edit {
     },
 }
 
-// An edit that changes nothing, which stands where no other does: there is no mode of that number.
+// An edit that changes nothing, for where no edit can be read: no mode has the number 255.
+// A mode stands in an edit as a number and no `Mode`, since what is written must be what was read.
 pub const NOTHING: Edit = Edit::SetMode(255);
 
 impl Edit {

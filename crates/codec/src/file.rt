@@ -6,7 +6,7 @@ ghost use Rattle.codec.specs.Read.{unless};
 ghost use Rattle.codec.specs.FileLaws.{FileRead};
 
 use crate::edits::{Lent, Refusal};
-use crate::read::{taken_end, two};
+use crate::read::{need, taken_end, two};
 use pixel::sizes::{MOST, Size};
 
 #[derive(Clone, Copy, Debug, PartialEq, Eq)]
@@ -29,7 +29,7 @@ impl Lengths {
     ghost use Rattle.codec.specs.Files.{short_for};
     ghost use Rattle.codec.specs.Read.{unless};
 
-    // Whether as much is lent as a page of that many pixels wants; divided, since no area is too large for that.
+    // Whether as much is lent as a page of that many pixels wants. Divided, since 544 times any area might not fit.
     pub fn enough(self, area: usize) -> Result<(), Refusal>
         ensures { result ≡ unless (short_for self area) (Ok tt) }
     {
@@ -48,7 +48,7 @@ fn side(pixels: usize, at: usize) -> Result<usize, Refusal>
     ensures is { result ≡ unless (side_refusal pixels at) (Ok pixels) }
     ensures sized { IfOk result (λ n. (1 ≤ n) × (n ≤ 4096)) }
 {
-    if pixels < 1 || pixels > MOST {
+    if !(1..=MOST).contains(&pixels) {
         return Err(Refusal::NoSize(at));
     }
     Ok(pixels)
@@ -64,6 +64,7 @@ pub fn page_size(wide: usize, high: usize) -> Result<Size, Refusal>
 }
 
 // What stands against the edit that comes after k others, at its first byte.
+// What stands against an edit is handed on as a value and looked at behind the kind; so it is an `Option`, as in the definitions.
 pub fn against_edit(turns: usize, k: usize, at: usize) -> Option<Refusal>
     ensures { result ≡ against_edit turns k at }
 {
@@ -95,10 +96,8 @@ fn side_at(bytes: &[u8], at: usize) -> Result<usize, Refusal>
     ensures check { Checks (sized bytes.now at) result }
     ensures is { IfOk result (λ n. (n ≡ two_at bytes.now at) × (1 ≤ n) × (n ≤ 4096)) }
 {
-    if bytes.len() < at + 2 {
-        return Err(Refusal::Ends(bytes.len()));
-    }
-    side(two(bytes, at) as usize, at)
+    need(bytes, at, 2)?;
+    side(usize::from(two(bytes, at)), at)
 }
 
 // Where the edits start, or what is wrong before them.
@@ -109,9 +108,7 @@ fn head_end(bytes: &[u8], lent: Lengths) -> Result<usize, Refusal>
     let wide = side_at(bytes, 4)?;
     let high = side_at(bytes, 6)?;
     lent.enough(wide * high)?;
-    if bytes.len() < 16 {
-        return Err(Refusal::Ends(bytes.len()));
-    }
+    need(bytes, 0, 16)?;
     Ok(16)
 }
 

@@ -1,7 +1,10 @@
 // The kinds of edits, each written as one byte.
-ghost use Rattle.std.specs.Prelude.{◌≡◌, slice_index};
-ghost use Rattle.codec.specs.Kinds.{built, kind_number, KindOf, filter_number, FilterKindOf};
+ghost use Rattle.std.specs.Prelude.{◌≡◌, Some, slice_index};
+ghost use Rattle.codec.specs.Kinds.{built, kind_number, KindOf, filter_number, FilterKindOf, unknown_text};
 ghost use Rattle.codec.specs.Scan.{heads};
+
+use std::error::Error;
+use std::fmt;
 
 // The bytes that write an undo and a redo, which are turns and no edits.
 pub const UNDO: u8 = 17;
@@ -41,6 +44,16 @@ pub enum FilterKind {
 // A byte that writes no kind of edit, or of filter.
 #[derive(Clone, Copy, Debug, PartialEq, Eq)]
 pub struct UnknownKind(pub u8);
+
+impl fmt::Display for UnknownKind {
+    ghost output = { λ e. Some (unknown_text e) };
+
+    fn fmt<W: fmt::Write>(&self, f: &mut fmt::Formatter<W>) -> fmt::Result {
+        write!(f, "no kind has the number {}", self.0)
+    }
+}
+
+impl Error for UnknownKind {}
 
 impl TryFrom<u8> for Kind {
     type Error = UnknownKind;
@@ -133,6 +146,7 @@ impl Kind {
 }
 
 // Whether this byte writes a kind of edit that can be carried out yet.
+// It takes a number and no `Kind`: callers ask with a turn's first byte, of which nothing is known yet.
 pub fn is_built(kind: u8) -> bool
     ensures { result ≡ built kind }
 {

@@ -7,6 +7,7 @@ ghost use Rattle.codec.specs.Meaning.{Held, held_prop};
 use crate::edits::Edit;
 
 // The first `done` edits are done, the others undone; the points and numbers of all of them stand in `source`.
+// No more is derived, since nothing compares or prints a listing.
 #[derive(Clone, Copy)]
 pub struct Listing<'a> {
     pub width: u16,

@@ -2,13 +2,23 @@
 // Bytes and a place stay two parameters: a refusal names a place, and an edit keeps one, so that a pair would be taken apart at once.
 ghost use Rattle.std.specs.Prelude.{◌≡◌, ℕ, ◌+◌, ◌*◌, ◌<◌, ◌≤◌, length, slice_index};
 ghost use Rattle.codec.specs.Meaning.{two_at};
-ghost use Rattle.codec.specs.Scan.{end_of, stroke_end, filter_end, flag_end, filter_at, edit_at, Headed};
+ghost use Rattle.codec.specs.Scan.{Needs, end_of, stroke_end, filter_end, flag_end, filter_at, edit_at, Headed};
 ghost use Rattle.codec.specs.Read.{taken_end, whole_turn, unless, read_turn, edit_and_end};
 ghost use Rattle.codec.specs.Laws.{TurnRead, EditGood};
 
 use crate::edits::{Edit, Filter, NOTHING, Rect, Refusal, Turn};
 use crate::kinds::{FilterKind, Kind, REDO, UNDO, is_built};
 use pixel::pixels::read_pixel;
+
+// There are `n` bytes from `at` on, or the bytes end before that.
+pub(crate) fn need(bytes: &[u8], at: usize, n: usize) -> Result<(), Refusal>
+    ensures { Needs bytes.now at n result }
+{
+    if bytes.len() < at || bytes.len() - at < n {
+        return Err(Refusal::Ends(bytes.len()));
+    }
+    Ok(())
+}
 
 pub(crate) fn two(bytes: &[u8], at: usize) -> u16
     requires { at + 1 < length bytes.now }
@@ -21,13 +31,11 @@ fn stroke_end(bytes: &[u8], at: usize) -> Result<usize, Refusal>
     requires { at + 8 ≤ length bytes.now }
     ensures { result ≡ stroke_end bytes.now at }
 {
-    let count = two(bytes, at + 6) as usize;
+    let count = usize::from(two(bytes, at + 6));
     if count > 1024 {
         return Err(Refusal::ManyPoints(at + 6));
     }
-    if bytes.len() - at < 8 + 4 * count {
-        return Err(Refusal::Ends(bytes.len()));
-    }
+    need(bytes, at, 8 + 4 * count)?;
     Ok(at + (8 + 4 * count))
 }
 
@@ -43,9 +51,7 @@ fn filter_end(bytes: &[u8], at: usize) -> Result<usize, Refusal>
         FilterKind::BoxBlur => 3,
         FilterKind::Curve => 258,
     };
-    if bytes.len() - at < size {
-        return Err(Refusal::Ends(bytes.len()));
-    }
+    need(bytes, at, size)?;
     if kind == FilterKind::BoxBlur && bytes[at + 2] > 64 {
         return Err(Refusal::WideBlur(at + 2));
     }
@@ -66,16 +72,12 @@ fn flag_end(bytes: &[u8], at: usize) -> Result<usize, Refusal>
 pub fn edit_end(bytes: &[u8], at: usize) -> Result<usize, Refusal>
     ensures { result ≡ end_of bytes.now at }
 {
-    if at >= bytes.len() {
-        return Err(Refusal::Ends(bytes.len()));
-    }
+    need(bytes, at, 1)?;
     let Ok(kind) = Kind::try_from(bytes[at]) else {
         return Err(Refusal::NoKind(at));
     };
     let head = kind.head();
-    if bytes.len() - at < head {
-        return Err(Refusal::Ends(bytes.len()));
-    }
+    need(bytes, at, head)?;
     match kind {
         Kind::SetVisible => flag_end(bytes, at),
         Kind::Stroke => stroke_end(bytes, at),
@@ -143,7 +145,7 @@ fn edit_in(bytes: &[u8], at: usize) -> Edit
 }
 
 // The edit that starts at `at`, and where it ends; where none does, one that changes nothing, and `at`.
-// No `Option`, since it cannot fail: who reads edits that were checked before has no refusal to give.
+// No `Option`: callers read edits that were checked before, and could do nothing with a None.
 pub fn edit_at(bytes: &[u8], at: usize) -> (Edit, usize)
     ensures is { result ≡ edit_and_end bytes.now at }
     ensures good { EditGood bytes.now result.0 }
@@ -158,9 +160,7 @@ pub fn edit_at(bytes: &[u8], at: usize) -> (Edit, usize)
 pub(crate) fn taken_end(bytes: &[u8], at: usize, against: Option<Refusal>) -> Result<usize, Refusal>
     ensures { result ≡ taken_end bytes.now at against }
 {
-    if at >= bytes.len() {
-        return Err(Refusal::Ends(bytes.len()));
-    }
+    need(bytes, at, 1)?;
     if !is_built(bytes[at]) {
         return Err(Refusal::NoKind(at));
     }
@@ -192,22 +192,19 @@ fn single(bytes: &[u8], turn: Turn, against: Option<Refusal>) -> Result<Turn, Re
 }
 
 // The turn that the bytes are, or why they are none; `against` is what stands against any turn at its first byte.
-// It is an `Option` and no `Result`, since it is looked at only after the kind.
+// What stands against an edit is handed on as a value and looked at behind the kind; so it is an `Option`, as in the definitions.
 #[tactic(auto, using(crate::proofs::Means::read_turn_means))]
 pub fn read_turn(bytes: &[u8], against: Option<Refusal>) -> Result<Turn, Refusal>
     ensures scans { result ≡ read_turn bytes.now against }
     ensures means { TurnRead bytes.now against result }
 {
-    if bytes.len() == 0 {
-        return Err(Refusal::Ends(0));
+    match bytes {
+        [] => Err(Refusal::Ends(0)),
+        [UNDO, ..] => single(bytes, Turn::Undo, against),
+        [REDO, ..] => single(bytes, Turn::Redo, against),
+        _ => {
+            let end = taken_end(bytes, 0, against)?;
+            whole(bytes, Turn::Does(edit_in(bytes, 0)), end)
+        }
     }
-    let kind = bytes[0];
-    if kind == UNDO {
-        return single(bytes, Turn::Undo, against);
-    }
-    if kind == REDO {
-        return single(bytes, Turn::Redo, against);
-    }
-    let end = taken_end(bytes, 0, against)?;
-    whole(bytes, Turn::Does(edit_in(bytes, 0)), end)
 }

@@ -36,7 +36,7 @@ fn stroke_bytes(kind: u8, p: Pixel, radius: u8, count: u16) -> [u8; 8]
     ]
 }
 
-// Puts what stands before the numbers of a curve.
+// Puts the bytes of a filter's edit, but for a curve's numbers.
 fn put_filter_head<S: Sink>(sink: &mut S, filter: Filter) -> Result<(), S::Error>
     requires { S.fits sink.old (length (filter_head filter)) }
     ensures { OnOk result (S.puts sink.old (filter_head filter) sink.new) }
@@ -50,7 +50,7 @@ fn put_filter_head<S: Sink>(sink: &mut S, filter: Filter) -> Result<(), S::Error
 }
 
 // Puts the bytes of an edit up to its points or numbers.
-fn put_head<S: Sink>(sink: &mut S, edit: Edit) -> Result<(), S::Error>
+fn put_edit_head<S: Sink>(sink: &mut S, edit: Edit) -> Result<(), S::Error>
     requires { S.fits sink.old (length (head_of edit)) }
     ensures { OnOk result (S.puts sink.old (head_of edit) sink.new) }
 {
@@ -86,7 +86,8 @@ fn put_head<S: Sink>(sink: &mut S, edit: Edit) -> Result<(), S::Error>
 }
 
 // The bytes of its points or numbers, where it was read from.
-fn tail<'a>(edit: Edit, source: &'a [u8]) -> &'a [u8]
+// An edit and its source are two parameters: edits stand in lists and slots without their bytes; a list with its bytes is a `Listing`.
+fn tail(edit: Edit, source: &[u8]) -> &[u8]
     requires { Held source.now edit }
     ensures { result.now ≡ tail_of source.now edit }
 {
@@ -96,9 +97,9 @@ fn tail<'a>(edit: Edit, source: &'a [u8]) -> &'a [u8]
             radius: _,
             start,
             count,
-        } => &source[start..start + 4 * count as usize],
+        } => &source[start..start + 4 * usize::from(count)],
         Edit::ApplyFilter(Filter::Curve { start }) => &source[start..start + 256],
-        _ => &source[0..0],
+        _ => &[],
     }
 }
 
@@ -109,7 +110,7 @@ fn put_edit<S: Sink>(sink: &mut S, edit: Edit, source: &[u8]) -> Result<(), S::E
     requires room { S.fits sink.old (length (written (edit_of source.now edit))) }
     ensures { OnOk result (S.puts sink.old (written (edit_of source.now edit)) sink.new) }
 {
-    put_head(sink, edit)?;
+    put_edit_head(sink, edit)?;
     sink.put(tail(edit, source))
 }
 
@@ -138,7 +139,7 @@ fn head_bytes(file: File) -> [u8; 16]
     ]
 }
 
-// The file of what is listed.
+// Puts the file of what is listed.
 fn put_file<S: Sink>(sink: &mut S, listing: Listing) -> Result<(), S::Error>
     requires { S.fits sink.old (length (file_listed listing)) }
     ensures { OnOk result (S.puts sink.old (file_listed listing.entry) sink.new) }
@@ -160,10 +161,8 @@ fn put(out: &mut [u8], at: usize, piece: &[u8]) -> usize
     ensures end { result ≡ at + length piece.now }
 {
     let mut cursor = Cursor { out, at };
-    match cursor.put(piece) {
-        Ok(()) => cursor.at,
-        Err(never) => match never {},
-    }
+    let Ok(()) = cursor.put(piece);
+    cursor.at
 }
 
 // Writes the edit, read from `source`, into `out` from `at` on, and says where it ends.
@@ -174,10 +173,8 @@ pub fn write_edit(out: &mut [u8], at: usize, edit: Edit, source: &[u8]) -> usize
     ensures end { result ≡ at + length (written (edit_of source.now edit)) }
 {
     let mut cursor = Cursor { out, at };
-    match put_edit(&mut cursor, edit, source) {
-        Ok(()) => cursor.at,
-        Err(never) => match never {},
-    }
+    let Ok(()) = put_edit(&mut cursor, edit, source);
+    cursor.at
 }
 
 // Copies the edit that stands in `source` from `at` to `end` into `out` from `to` on, and says where it ends there.
@@ -210,10 +207,8 @@ pub fn write_file(out: &mut [u8], listing: Listing) -> Result<usize, Refusal>
         return Err(Refusal::Short(Lent::File));
     }
     let mut cursor = Cursor { out, at: 0 };
-    match put_file(&mut cursor, listing) {
-        Ok(()) => Ok(cursor.at),
-        Err(never) => match never {},
-    }
+    let Ok(()) = put_file(&mut cursor, listing);
+    Ok(cursor.at)
 }
 
 // Adds the edit, read from `source`. Without memory for all of it, a part of it may have been added.
@@ -225,6 +220,7 @@ pub fn append_edit(out: &mut Vec<u8>, edit: Edit, source: &[u8]) -> Result<(), A
 }
 
 // Adds what stands in a file before its edits, or nothing without memory for it.
+// It goes over no `Sink`, whose `put` may add a part on an error.
 pub fn append_head(out: &mut Vec<u8>, file: File) -> Result<(), AllocError>
     ensures { out.new.items ≡ (if is_ok result then out.old.items ++ file_head file.width file.height file.done file.undone else out.old.items) }
 {

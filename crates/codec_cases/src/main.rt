@@ -12,6 +12,7 @@ use codec::edits::{Lent, Refusal};
 use codec::file::{Lengths, read_file};
 use codec::read::{edit_end, read_turn};
 use std::alloc::Global;
+use std::iter;
 
 fn push_bytes(bytes: &mut Vec<u8>, word: &str) -> anyhow::Result<()> {
     let (digits, times) = match word.split_once('*') {
@@ -19,9 +20,7 @@ fn push_bytes(bytes: &mut Vec<u8>, word: &str) -> anyhow::Result<()> {
         None => (word, 1),
     };
     let byte = u8::from_str_radix(digits, 16)?;
-    for _ in 0..times {
-        bytes.push(byte)?;
-    }
+    bytes.extend(iter::repeat_n(byte, times))?;
     Ok(())
 }
 
@@ -42,6 +41,7 @@ fn number(line: &str, k: usize) -> anyhow::Result<usize> {
     Ok(word(line, k).parse::<usize>()?)
 }
 
+// What stands against an edit is handed on as a value and looked at behind the kind; so it is an `Option`, as in the definitions.
 fn against(name: &str) -> Option<Refusal> {
     match name {
         "many" => Some(Refusal::TooMany(0)),

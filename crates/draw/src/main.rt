@@ -35,7 +35,7 @@ fn lend(heap: Global, pixels: usize, turns: usize) -> Result<Memory, AllocError>
     Ok(Memory { turns, tiles, work })
 }
 
-// A desk in the memory, with the editor that is made there.
+// Makes an editor in the memory, and a desk of both.
 fn desk_in<F>(mut memory: Memory, make: F) -> Result<Desk, Refusal>
 where
     F: FnOnce(&mut [u8], &mut [u8], &mut [u32]) -> Result<Editor, Refusal>,
@@ -61,6 +61,7 @@ fn begin(heap: Global, wide: usize, high: usize, most: usize, lines: usize) -> R
 }
 
 // How many pixels the page of a file has, as its head says; none where it is too short to say.
+// Not by codec's reader, which asks for the lent lengths first: this only sizes the memory. A wrong number lends too little or too much, and `read` then refuses or takes.
 fn pixels_of(file: &[u8]) -> usize
     ensures { result ≤ 16777216 }
 {
@@ -107,21 +108,20 @@ fn start(rt: &HostRuntime, source: Source, size: usize, lines: usize) -> Result<
 }
 
 // Writes the page's file.
-fn save_page(rt: &HostRuntime, desk: &Desk, path: &str) -> io::Result<()> {
+fn save_page(rt: &HostRuntime, desk: &Desk, path: &str) -> Result<(), Stop> {
     let edits = desk.editor.timeline.done + desk.editor.timeline.undone;
     let mut file = vec![in rt.alloc(); 0u8; 16 + 8192 * edits]?;
-    // there is room for every edit
     let size = files::write(
         &desk.editor,
         desk.memory.turns.as_slice(),
         file.as_mut_slice(),
-    )
-    .map_err(|_| io::Error::from(io::ErrorKind::Other))?;
+    )?;
     file.truncate(size);
-    save(rt, path, file.as_slice())
+    Ok(save(rt, path, file.as_slice())?)
 }
 
 // Does what the call asks for; false where a line was not taken, as it then says.
+// Not one function with plain's: how a page begins, plays, prints and is saved would be four parameters, longer than the lines that are alike.
 fn run(rt: &HostRuntime, call: Call) -> Result<bool, Stop> {
     let mut script = Vec::new(rt.alloc());
     rt.stdin().read_to_end(&mut script)?;

@@ -1,6 +1,7 @@
 -- Scripts: where their turns end, and what each step of playing them comes to. Assumes nothing.
 use Rattle.std.proofs.Common.{◌≡◌, ℕ, ◌+◌, ◌-◌, ◌*◌, ◌<◌, ◌≤◌, false, ◌&&◌, ◌||◌, eqb, ltb, leb, List, [], ◌∷◌, ◌++◌, length, get_or, take, drop, Some, None, Ok, Err, Option, Result, sym, refl, ap, ◌∙◌, subst, ap₂, inl, inr, arith, length-append, length-drop, take-append-drop}
 use Rattle.std.specs.List.{between}
+use Rattle.std.specs.Result.{result_unwrap_or}
 use Rattle.std.proofs.lemmas.List.Edits.{length-between, get_or-between}
 use Rattle.std.proofs.lemmas.Slice.{between_is}
 use Rattle.std.proofs.lemmas.List.{get_or_past, flat_map_more, take_all, take-take}
@@ -11,7 +12,7 @@ use Rattle.codec.specs.declared.edits.Refusal.{Refusal}
 use Rattle.codec.specs.declared.edits.Turn.{Turn as Read}
 use Rattle.codec.specs.Laws.{Taken}
 use Rattle.codec.specs.Meaning.{edit_of, turn_of, Bytes}
-use Rattle.codec.specs.Scan.{end_of, edit_at}
+use Rattle.codec.specs.Scan.{End, end_of, edit_at}
 use Rattle.codec.specs.Read.{read_turn}
 use Rattle.codec.specs.Written.{written, written_turn}
 use Rattle.codec.proofs.Sound.{reads_written}
@@ -34,6 +35,12 @@ edit_cut bs at n fit a b e =
     let within = end_within bs at n fit e in
     let test : (eqb (get_or bs at 0) 17 || eqb (get_or bs at 0) 18) ≡ false = rw (ne_eqb (get_or bs at 0) 17 a, ne_eqb (get_or bs at 0) 18 b) refl in
     record { is = sym (cond-false _ _ _ test ∙ ap (end_or_all bs) e); onward = within.0; within = within.1 }
+
+pub cut_or_all : (bs : List ℕ) (at : ℕ) (r : End) → Bytes bs → at < length bs → (get_or bs at 0 ≡ 17 → ⊥) → (get_or bs at 0 ≡ 18 → ⊥) → end_of bs at ≡ r → Cut bs at (result_unwrap_or r (length bs))
+cut_or_all bs at (Ok n) fit l a b e = edit_cut bs at n fit a b e
+cut_or_all bs at (Err f) fit l a b e =
+    let test : (eqb (get_or bs at 0) 17 || eqb (get_or bs at 0) 18) ≡ false = rw (ne_eqb (get_or bs at 0) 17 a, ne_eqb (get_or bs at 0) 18 b) refl in
+    record { is = sym (cond-false _ _ _ test ∙ ap (end_or_all bs) e); onward = l; within = omega arith }
 
 -- the bytes between two places are bytes
 bytes_between : (bs : List ℕ) (i j : ℕ) → Bytes bs → j ≤ length bs → Bytes (between i j bs)

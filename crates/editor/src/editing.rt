@@ -1,5 +1,5 @@
 // begin, turn and show. None has a `requires`: what cannot be done is refused, and all is then left as it was.
-// The slices that are lent are parameters one by one: the editor allocates nothing, and its five functions have these signatures from the start.
+// The lent slices are separate parameters: the editor allocates nothing, and the signatures of begin, turn, show, write and read are fixed.
 ghost use Rattle.std.specs.Prelude.{◌≡◌, ℕ, length, None};
 ghost use Rattle.codec.specs.Laws.{Taken};
 ghost use Rattle.codec.specs.Meaning.{turn_of};
@@ -28,6 +28,7 @@ pub(crate) fn lengths(turns: &[u8], tiles: &[u8], work: &[u32]) -> Lengths
 }
 
 // What is against any turn at its first byte, if anything.
+// What stands against a turn is handed to the reader as a value, and looked at behind the kind; so it is an `Option`, as in the definitions.
 fn against_turn(editor: &Editor, lent: Lengths) -> Option<Refusal>
     ensures { result ≡ against editor.now lent.turns lent.tiles lent.work }
 {

@@ -48,8 +48,8 @@ pub fn read(
     let undone = head.undone as usize;
     read_slots(turns, file, done + undone);
     let size = Size {
-        wide: head.width as usize,
-        high: head.height as usize,
+        wide: usize::from(head.width),
+        high: usize::from(head.height),
     };
     let canvas = remake(size, turns, done, tiles);
     let timeline = Timeline {

@@ -16,13 +16,11 @@ fn turn_end(script: &[u8], at: usize) -> usize
     if script[at] == UNDO || script[at] == REDO {
         return at + 1;
     }
-    match edit_end(script, at) {
-        Ok(end) => end,
-        Err(_) => script.len(),
-    }
+    edit_end(script, at).unwrap_or(script.len())
 }
 
 // Begins, takes the turns that stand one after the other in the script, and says what is seen at a pixel.
+// Counted by a place, and not by what is left of the script: the contract says at which place a turn was refused.
 pub fn play(
     width: usize,
     height: usize,

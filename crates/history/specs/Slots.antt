@@ -1,6 +1,6 @@
 -- The history read off the slots of the turns. Assumes nothing.
 -- Slot k begins at 8192 k with an edit's bytes. The first slots hold the done edits, from the first; the undone ones, the next to redo first, are behind them.
-use Rattle.std.specs.Prelude.{◌≡◌, ℕ, zero, suc, ◌*◌, List, [], ◌∷◌, length, drop, ◌≢◌}
+use Rattle.std.specs.Prelude.{◌≡◌, ℕ, zero, suc, ◌*◌, ◌≤◌, List, [], ◌∷◌, length, drop, ◌≢◌}
 use Rattle.std.specs.List.{All}
 use Rattle.pixel.specs.declared.sizes.Size.{Size}
 use Rattle.page.specs.Edits.{Page, Edit, blank, after}
@@ -18,6 +18,10 @@ use Rattle.tiles.specs.Places.{Shown}
 
 abbrev pub slot_at : ℕ → ℕ
 slot_at k = 8192 * k
+
+-- the turns are long enough for the first n slots
+abbrev pub Slots : ℕ → List ℕ → Type 0
+Slots n turns = 8192 * n ≤ length turns
 
 -- the edit in a slot; where none of a kind that there is stands there, one that changes nothing
 abbrev pub slot_edit : List ℕ → ℕ → Edit

@@ -19,6 +19,8 @@ pub struct Timeline {
     pub undone: usize,
 }
 
+// undo and redo are not one function: with the numbers as parameters it would be as long, and say less of which turn it is.
+// `Lends` stays a clause of each: the slices are lent to each call, and no value keeps them.
 impl Timeline {
     // Takes back the last edit that is done, if there is one.
     pub fn undo(&mut self, turns: &[u8], tiles: &mut [u8])

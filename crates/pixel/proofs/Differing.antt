@@ -2,7 +2,6 @@
 use Rattle.std.proofs.Common.{◌≡◌, ℕ, ◌+◌, ◌-◌, ◌*◌, ◌<◌, ◌≤◌, min, max, eqb, ◌⊎◌, List, sym, refl, ap, ◌∙◌, subst, inl, inr, arith}
 use Rattle.std.proofs.lemmas.Bool.{cases_eq, cases_lt, cases_Bool, cond-true, cond-false, eq-eqb, ne_eqb}
 use Rattle.std.specs.Prelude.{Option, None, Some, MatchOption}
-use Rattle.std.specs.Option.{unwrap_or}
 use Rattle.pixel.specs.declared.areas.Area.{Area}
 use Rattle.pixel.specs.Areas.{Within, AreaIn, nowhere, whole, first_rows, Touches, Around, join}
 use Rattle.pixel.specs.Bytes.{pixel_at}
@@ -181,6 +180,6 @@ module _ (xs : List ℕ) (at by : ℕ) where
 pub first_found : (xs : List ℕ) (at by n : ℕ) (r : Option ℕ) →
     MatchOption r ((k : ℕ) → 0 ≤ k → k < n → pixel_at xs (at + 4 * k) ≡ pixel_at xs (by + 4 * k))
     (λ i. (0 ≤ i) × (i < n) × (pixel_at xs (at + 4 * i) ≡ pixel_at xs (by + 4 * i) → ⊥) × ((k : ℕ) → 0 ≤ k → k < i → pixel_at xs (at + 4 * k) ≡ pixel_at xs (by + 4 * k))) →
-    FirstUnlike xs at by n (unwrap_or r n)
+    MatchOption r (FirstUnlike xs at by n n) (λ i. FirstUnlike xs at by n i × (i < n))
 first_found xs at by n None all = record { few = omega arith; alike = λ k l. all k (omega arith) l; unlike = λ l. absurd (omega arith) }
-first_found xs at by n (Some i) found = record { few = omega (arith, found.1); alike = λ k l. found.3 k (omega arith) l; unlike = λ _. found.2 }
+first_found xs at by n (Some i) found = (record { few = omega (arith, found.1); alike = λ k l. found.3 k (omega arith) l; unlike = λ _. found.2 }, found.1)

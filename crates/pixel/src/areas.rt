@@ -1,6 +1,6 @@
 // Parts of a page, and the smallest one around the pixels in which two pictures differ.
-// Rows are taken by their numbers: those of a part lie apart in its picture, and are items of no slice.
-ghost use Rattle.std.specs.Prelude.{◌≡◌, ℕ, ◌+◌, ◌*◌, ◌<◌, ◌≤◌, ◌⊎◌, ◌↔◌, IsTrue, length};
+// Rows are taken by their numbers: the rows of a part do not lie side by side in its picture.
+ghost use Rattle.std.specs.Prelude.{◌≡◌, ℕ, ◌+◌, ◌*◌, ◌<◌, ◌≤◌, ◌⊎◌, ◌↔◌, IsTrue, MatchOption, length};
 ghost use Rattle.pixel.specs.Areas.{join, Around, AreaIn};
 ghost use Rattle.pixel.specs.Bytes.{pixel_at};
 ghost use Rattle.pixel.specs.Pictures.{picture_in, RegionTo, Differs, FirstUnlike, LastUnlike, RowDiffers};
@@ -24,7 +24,7 @@ pub const NOWHERE: Area = Area {
     high: 0,
 };
 
-// A part of one picture, copied into the same place of another. The pictures may be 0 across or down, as no Size is.
+// A part of one picture, copied into the same place of another. Two numbers and no Size, since a picture may be 0 across or down.
 pub fn copy_region(bytes: &mut [u8], from: usize, to: usize, wide: usize, high: usize, area: Area)
     requires sized { (wide ≤ 4096) × ((high ≤ 4096) × (AreaIn wide high area)) }
     requires lies { (from + 4 * (wide * high) ≤ length bytes.old) × ((to + 4 * (wide * high) ≤ length bytes.old) × ((from + 4 * (wide * high) ≤ to) ⊎ (to + 4 * (wide * high) ≤ from))) }
@@ -36,7 +36,7 @@ pub fn copy_region(bytes: &mut [u8], from: usize, to: usize, wide: usize, high: 
     }
 }
 
-// Whether the pixels at two places are the same.
+// Whether the pixels at two places are the same. Pixels are told by their places, as wherever bytes are written.
 fn is_same(bytes: &[u8], p: usize, q: usize) -> bool
     requires { (p + 4 ≤ length bytes.now) × (q + 4 ≤ length bytes.now) }
     ensures { IsTrue result ↔ (pixel_at bytes.now p ≡ pixel_at bytes.now q) }
@@ -44,14 +44,12 @@ fn is_same(bytes: &[u8], p: usize, q: usize) -> bool
     read_pixel(bytes, p) == read_pixel(bytes, q)
 }
 
-// The first of n places in which two rows of pixels differ, or n.
-fn first_unlike(bytes: &[u8], at: usize, by: usize, n: usize) -> usize
+// The first of n places in which two rows of pixels differ, if there is one.
+fn first_unlike(bytes: &[u8], at: usize, by: usize, n: usize) -> Option<usize>
     requires { (at + 4 * n ≤ length bytes.now) × (by + 4 * n ≤ length bytes.now) }
-    ensures { FirstUnlike bytes.now at by n result }
+    ensures { MatchOption result (FirstUnlike bytes.now at by n n) (λ r. FirstUnlike bytes.now at by n r × (r < n)) }
 {
-    (0..n)
-        .find(|k| !is_same(bytes, at + 4 * *k, by + 4 * *k))
-        .unwrap_or(n)
+    (0..n).find(|k| !is_same(bytes, at + 4 * *k, by + 4 * *k))
 }
 
 // One past the last, or 0.
@@ -59,7 +57,7 @@ fn last_unlike(bytes: &[u8], at: usize, by: usize, n: usize) -> usize
     requires { (at + 4 * n ≤ length bytes.now) × (by + 4 * n ≤ length bytes.now) }
     ensures { LastUnlike bytes.now at by n result }
 {
-    // A loop, since a search over a range from its end got no proof as a chain.
+    // A loop: `(0..n).rev().find(..)` was tried, and the library has no lemma for a range from its end.
     for k in (0..n).rev() {
         if !is_same(bytes, at + 4 * k, by + 4 * k) {
             return k + 1;
@@ -94,10 +92,9 @@ fn unlike_in_row(bytes: &[u8], at: usize, by: usize, left: usize, n: usize, j: u
     requires { (at + 4 * n ≤ length bytes.now) × ((by + 4 * n ≤ length bytes.now) × ((left + n ≤ 4096) × (j < 4096))) }
     ensures { RowDiffers bytes.now at by left n j result }
 {
-    let first = first_unlike(bytes, at, by, n);
-    if first == n {
+    let Some(first) = first_unlike(bytes, at, by, n) else {
         return NOWHERE;
-    }
+    };
     let end = last_unlike(bytes, at, by, n);
     Area {
         left: left + first,
@@ -107,7 +104,7 @@ fn unlike_in_row(bytes: &[u8], at: usize, by: usize, left: usize, n: usize, j: u
     }
 }
 
-// The smallest part around the pixels of an area in which two pictures differ. They too may be 0 across or down.
+// The smallest part around the pixels of an area in which two pictures differ. Two numbers and no Size, likewise.
 pub fn differing(bytes: &[u8], at: usize, by: usize, wide: usize, high: usize, area: Area) -> Area
     requires sized { (wide ≤ 4096) × ((high ≤ 4096) × (AreaIn wide high area)) }
     requires lies { (at + 4 * (wide * high) ≤ length bytes.now) × (by + 4 * (wide * high) ≤ length bytes.now) }

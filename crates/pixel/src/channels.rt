@@ -5,7 +5,7 @@ ghost use Rattle.pixel.specs.Modes.{mode_number};
 
 use crate::modes::Mode;
 
-// The number of a channel.
+// What a channel holds, 0 to 255, in a word that has room for sums and products.
 #[derive(Clone, Copy, Debug, PartialEq, Eq)]
 pub struct Channel {
     pub word: u32,

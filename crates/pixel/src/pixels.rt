@@ -1,4 +1,5 @@
 // One pixel: laid on another, mixed, merged, read from bytes and written to them.
+// Channel by channel, written out: alpha goes by another rule than the colours, and an array between bytes and a pixel would be one conversion more.
 ghost use Rattle.std.specs.Prelude.{◌≡◌, ℕ, ◌+◌, ◌≤◌, length, if◌then◌else◌, nat_lt};
 ghost use Rattle.pixel.specs.Pixels.{pixel_over, pixel_lerp, merged};
 ghost use Rattle.pixel.specs.Modes.{mode_number};

@@ -1,5 +1,5 @@
 // Loops that write a run of pixels or bytes, over the whole lent slice from a base offset on. Every other byte stays.
-// A place and a number stay two parameters: two runs of one length share the number.
+// `at` and `n` are two parameters, since functions over two runs of one length share `n`.
 // Pixels are written by their places: the library's as_chunks_mut says nothing of what the whole slice ends as.
 ghost use Rattle.std.specs.Prelude.{◌≡◌, ℕ, ◌+◌, ◌*◌, ◌<◌, ◌≤◌, ◌⊎◌, length, ◌==◌, slice_index};
 ghost use Rattle.pixel.specs.Bytes.{pixel_at, PixelsTo, PixelsBy, BytesTo};
@@ -49,7 +49,7 @@ pub fn no_bytes(bytes: &[u8]) -> bool
     bytes.is_empty()
 }
 
-// Each of the n pixels from `at` on, made by the step from its mate in the run from `from` on and from itself. The runs lie apart.
+// Each of the n pixels from `at` on becomes `step(p, q)`, where q is that pixel and p the one at the same place of the run from `from` on. The runs do not overlap.
 pub fn step_pixels<F: Fn(Pixel, Pixel) -> Pixel>(
     bytes: &mut [u8],
     from: usize,

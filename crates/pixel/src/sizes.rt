@@ -13,16 +13,6 @@ pub struct Size {
 }
 
 impl Size {
-    // The size, if a page can have it.
-    pub fn new(wide: usize, high: usize) -> Option<Size>
-        ensures { MatchOption result ((wide < 1) ⊎ ((4096 < wide) ⊎ ((high < 1) ⊎ (4096 < high)))) (λ s. (s.wide ≡ wide) × (s.high ≡ high)) }
-    {
-        if wide < 1 || wide > MOST || high < 1 || high > MOST {
-            return None;
-        }
-        Some(Size { wide, high })
-    }
-
     // How many pixels the page has.
     pub fn area(self) -> usize
         ensures is { result ≡ self.wide * self.high }
@@ -32,7 +22,7 @@ impl Size {
     }
 }
 
-// How many pixels that many columns and rows have; none where one of them is 0, as no page's is.
+// How many pixels `wide` columns and `high` rows have; unlike a Size's sides, either may be 0.
 pub fn area(wide: usize, high: usize) -> usize
     requires { (wide ≤ 4096) × (high ≤ 4096) }
     ensures is { result ≡ wide * high }

@@ -3,7 +3,6 @@
 
 ghost use Rattle.std.specs.Prelude.{◌≤◌};
 
-use codec::edits::{Lent, Refusal};
 use reference::shown::lent_for;
 use reference::state::Engine;
 use std::io::{Read, Write};
@@ -25,9 +24,7 @@ fn begin(rt: &HostRuntime, source: Source, size: usize) -> Result<Engine, Stop>
     match source {
         Source::New { wide, high } => {
             let engine = Engine::begin(rt.alloc(), wide, high)?;
-            if engine.size.area() > size * size {
-                return Err(Stop::Refused(Refusal::Short(Lent::Tiles)));
-            }
+            lent_for(size).enough(engine.size.area())?;
             Ok(engine)
         }
         Source::Open(path) => {

@@ -17,17 +17,14 @@ use std::alloc::{AllocError, Global};
 use words::taking::Fault;
 
 // What is against any turn: there are at most 65,536.
+// What stands against a turn is handed to the reader as a value, and looked at behind the kind; so it is an `Option`, as in the definitions.
 fn against_turn(taken: usize) -> Option<Refusal>
     ensures { result ≡ against taken }
 {
-    if taken < 65536 {
-        None
-    } else {
-        Some(Refusal::TooMany(0))
-    }
+    (taken >= 65536).then_some(Refusal::TooMany(0))
 }
 
-// Puts an edit behind the first `done`, and forgets those that were undone: not before it is in, so that without memory none is lost.
+// Puts an edit behind the first `done`, and forgets those that were undone; those go only when the new one is in, so that none is lost for want of memory.
 fn put_behind(edits: &mut Vec<Edit>, done: usize, edit: Edit) -> Result<(), AllocError>
     requires { done ≤ vec_len edits.old }
     ensures items { edits.new.items ≡ (if is_ok result then take done edits.old.items ++ edit ∷ [] else edits.old.items) }

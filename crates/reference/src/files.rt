@@ -35,8 +35,8 @@ impl Engine {
         ensures { OpenedBy file.items (Ok head) result }
     {
         let size = Size {
-            wide: head.width as usize,
-            high: head.height as usize,
+            wide: usize::from(head.width),
+            high: usize::from(head.height),
         };
         let count = head.done as usize + head.undone as usize;
         let edits = edits_in(heap, file.as_slice(), count)?;

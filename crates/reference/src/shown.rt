@@ -30,14 +30,14 @@ impl Takes for Engine {
     }
 }
 
-// A page that was made in lent bytes.
+// A page that was made in lent bytes. It derives no more, since it holds a Canvas, which is neither compared nor printed.
 #[derive(Clone, Copy)]
 pub struct Made<'a> {
     pub canvas: &'a Canvas,
     pub tiles: &'a [u8],
 }
 
-impl<'a> Shows for Made<'a> {
+impl Shows for Made<'_> {
     ghost seen = { λ m x y. or_white (seen_at m.canvas.now m.tiles.now x y) };
 
     fn pixel(&self, x: usize, y: usize) -> Pixel {

@@ -15,7 +15,7 @@ fn whiten(tile: &mut [u8])
     tile.fill(255);
 }
 
-impl<'a> Tile<'a> {
+impl Tile<'_> {
     // A layer laid on the tile.
     fn lay_rows(&self, tiles: &mut [u8], layer: Layer)
         requires { (layer.plane < 64) × (LiesIn self.now tiles.old) }

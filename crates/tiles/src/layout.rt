@@ -10,6 +10,8 @@ use pixel::areas::Area;
 pub const SIDE: usize = 32;
 
 // A tile: the part of a canvas' page that it shows, and where its pixels begin in the lent memory.
+// The bytes are lent to each call, as beside Canvas; so each call says that the tile lies in them.
+// A tile is only copied: it holds a Canvas, which is neither compared nor printed.
 #[derive(Clone, Copy)]
 pub(crate) struct Tile<'a> {
     pub canvas: &'a Canvas,

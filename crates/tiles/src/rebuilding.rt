@@ -1,24 +1,13 @@
 // The tiles that a part of the page meets, built anew.
-ghost use Rattle.std.specs.Prelude.{◌+◌, ◌*◌, ◌/◌, ◌<◌, ◌≤◌};
 ghost use Rattle.pixel.specs.Areas.{AreaIn};
 ghost use Rattle.page.specs.Edits.{Page};
 ghost use Rattle.canvas.specs.View.{Room, view};
-ghost use Rattle.tiles.specs.Places.{BuiltWhere, Meets, InBand, Shown, OnlyIn, AllBuilt};
+ghost use Rattle.tiles.specs.Places.{BuiltWhere, Meets, Shown, OnlyIn, AllBuilt};
 
 use crate::layout::SIDE;
 use crate::tiling::build_tile;
 use canvas::state::Canvas;
 use pixel::areas::Area;
-
-// Those of one row of tiles.
-fn rebuild_band(canvas: &Canvas, tiles: &mut [u8], area: Area, ty: usize)
-    requires { (Room canvas.now.size tiles.old) × ((32 * ty < canvas.now.size.high) × (area.left + area.wide ≤ canvas.now.size.wide)) }
-    ensures { BuiltWhere (InBand ty (area.left / 32) ((area.left + area.wide + 31) / 32)) canvas.now tiles.old tiles.new }
-{
-    for tx in area.left / SIDE..(area.left + area.wide).div_ceil(SIDE) {
-        build_tile(canvas, tiles, tx, ty);
-    }
-}
 
 // The tiles that the area meets, and no others: if the tiles showed the page as it was before an edit that changed what is seen in the area only, they now show the page as it is.
 pub fn rebuild(canvas: &Canvas, tiles: &mut [u8], area: Area)
@@ -26,8 +15,11 @@ pub fn rebuild(canvas: &Canvas, tiles: &mut [u8], area: Area)
     ensures built { BuiltWhere (Meets area) canvas.now tiles.old tiles.new }
     ensures shown { (before : Page) → Shown canvas.now before tiles.old → OnlyIn area before (view canvas.now tiles.old) → Shown canvas.now (view canvas.now tiles.new) tiles.new }
 {
+    // Tiles by their columns and rows, which say where they lie; they are items of no slice.
     for ty in area.top / SIDE..(area.top + area.high).div_ceil(SIDE) {
-        rebuild_band(canvas, tiles, area, ty);
+        for tx in area.left / SIDE..(area.left + area.wide).div_ceil(SIDE) {
+            build_tile(canvas, tiles, tx, ty);
+        }
     }
 }
 

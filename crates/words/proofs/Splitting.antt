@@ -1,8 +1,9 @@
 -- A line of words with spaces between is split into these words.
-use Rattle.std.proofs.Common.{◌≡◌, ℕ, suc, ◌+◌, ◌<◌, ◌≤◌, Bool, true, false, not, List, [], ◌∷◌, ◌++◌, length, take, drop, inl, inr, sym, subst, ap₂, refl, ap, ◌∙◌, append_assoc, append-nil, arith, unwrap_or}
+use Rattle.std.proofs.Common.{◌≡◌, ℕ, suc, ◌+◌, ◌<◌, ◌≤◌, Bool, true, false, not, List, [], ◌∷◌, ◌++◌, length, take, drop, inl, inr, sym, subst, ap₂, refl, ap, ◌∙◌, append_assoc, append-nil, arith, unwrap_or, Some, None, if◌then◌else◌, ltb, length-drop}
 use Rattle.std.specs.List.{AllByRecursion, position, position_or_len}
 use Rattle.std.proofs.lemmas.Bool.{cases_Bool, cases_lt, lt-ltb, le-ltb, cond-false}
-use Rattle.std.proofs.lemmas.List.{length-take-le}
+use Rattle.std.proofs.lemmas.List.{length-take-le, nil_from_length}
+use Rattle.std.proofs.lemmas.Bool.Decides.{nat_tests}
 use Rattle.std.proofs.lemmas.List.Sums.{prefix_len-le-length}
 use Rattle.words.specs.Split.{is_space, ends_run, run, ended, split, words_of, spaced}
 
@@ -84,3 +85,22 @@ first_word xs rest w ws back some front behind =
     let within = run_within false rest in
     let has : 0 < length w = rw front (rw (length-take-le (run false rest) rest within) long) in
     sym (spaces_off xs) ∙ (ap words_of (sym back) ∙ (word_off [] rest ∙ (ap₂ (λ v vs. ended v (words_of vs)) (sym front) (sym behind) ∙ ended_some w (words_of ws) has)))
+
+-- where a search ends
+pub placed : (k n i : ℕ) → (if ltb k n then Some k else None) ≡ Some i → (k < n) × (k ≡ i)
+placed k n i h = grind (arith, nat_tests)
+
+pub unplaced : (k n : ℕ) → (if ltb k n then Some k else None) ≡ None → n ≤ k
+unplaced k n h = grind (arith, nat_tests)
+
+pub no_start : (xs : List ℕ) → position (ends_run true) xs ≡ None → words_of xs ≡ []
+no_start xs h =
+    let past = unplaced (run true xs) (length xs) h in
+    sym (spaces_off xs) ∙ ap words_of (nil_from_length (drop (run true xs) xs) (omega (arith, length-drop (run true xs) xs, past)))
+
+pub first_at : (xs rest w ws : List ℕ) (start end : ℕ) → position (ends_run true) xs ≡ Some start → rest ≡ drop start xs → end ≡ run false rest → w ≡ take end rest → ws ≡ drop end rest →
+    words_of xs ≡ w ∷ words_of ws
+first_at xs rest w ws start end found is ends front behind =
+    let p = placed (run true xs) (length xs) start found in
+    let some : 0 < length rest = rw is (omega (arith, length-drop start xs, p.0, p.1)) in
+    first_word xs rest w ws (is ∙ ap (λ k. drop k xs) (sym p.1)) some (front ∙ ap (λ n. take n rest) ends) (behind ∙ ap (λ n. drop n rest) ends)

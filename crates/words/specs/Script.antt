@@ -1,8 +1,10 @@
 -- Scripts: their lines, and what comes of playing them on a page. Assumes nothing.
-use Rattle.std.specs.Prelude.{◌≡◌, ℕ, ◌+◌, Bool, true, false, if◌then◌else◌, ◌&&◌, List, [], ◌∷◌, ◌++◌, codes, decimal, is_ok, Ok, Err, Result, ◌==◌}
+use Rattle.std.specs.Prelude.{◌≡◌, ℕ, ◌+◌, Bool, true, false, if◌then◌else◌, ◌&&◌, List, [], ◌∷◌, ◌++◌, codes, decimal, is_ok, Ok, Err, Result, ⊤, ◌==◌}
 use Rattle.codec.specs.Refusals.{refused_text}
 use Rattle.words.specs.declared.taking.Fault.{Fault}
 use Rattle.words.specs.declared.taking.Fault.TheVariants.{Refused, NoMemory}
+use Rattle.words.specs.declared.script.Trouble.{Trouble}
+use Rattle.words.specs.declared.script.Trouble.TheVariants.{NotUnderstood, Fault as OfFault}
 use Rattle.words.specs.Split.{ended}
 use Rattle.words.specs.Lines.{Says, blank, turn, unknown, understood}
 
@@ -27,6 +29,10 @@ told n (Ok u) = []
 told n (Err (Refused why)) = codes "line " ++ (decimal n ++ (codes ": " ++ (refused_text why ++ codes "\n")))
 told n (Err NoMemory) = []
 
+abbrev pub trouble_text : Trouble → List ℕ
+trouble_text NotUnderstood = codes "not understood"
+trouble_text (OfFault fault) = fault_text fault
+
 -- P is a page, and `steps` says what a turn by its bytes makes of it; messages go from `old` to `new`, and ok says that nothing was left out
 module _ {P : Type 0} (steps : P → List ℕ → Result (Unit {0}) Fault → P → Type 0) where
   -- a turn of line n
@@ -41,6 +47,17 @@ module _ {P : Type 0} (steps : P → List ℕ → Result (Unit {0}) Fault → P 
   LinePlays n blank p q old new ok = (q ≡ p) × (new ≡ old) × (ok ≡ true)
   LinePlays n unknown p q old new ok = (q ≡ p) × (new ≡ old ++ not_understood n) × (ok ≡ false)
   LinePlays n (turn bs) p q old new ok = TurnPlays n bs p q old new ok
+
+  -- what a line that says this makes of a page, or why not; where memory is wanting, nothing is said
+  abbrev pub LineTakes : Result (Unit {0}) Trouble → Says → P → P → Type 0
+  LineTakes (Ok u) blank p q = q ≡ p
+  LineTakes (Ok u) unknown p q = ⊥
+  LineTakes (Ok u) (turn bs) p q = steps p bs (Ok u) q
+  LineTakes (Err NotUnderstood) says p q = (says ≡ unknown) × (q ≡ p)
+  LineTakes (Err (OfFault NoMemory)) says p q = ⊤
+  LineTakes (Err (OfFault (Refused why))) blank p q = ⊥
+  LineTakes (Err (OfFault (Refused why))) unknown p q = ⊥
+  LineTakes (Err (OfFault (Refused why))) (turn bs) p q = steps p bs (Err (Refused why)) q
 
   -- a line and then others
   pub record BothPlay (First : P → List ℕ → Bool → Type 0) (Rest : P → List ℕ → Bool → Type 0) (ok : Bool) : Type 0 where

@@ -8,19 +8,11 @@ ghost use Rattle.words.specs.Calls.{asked, size_of, with_save, with_size, with_o
 use crate::call::{Call, Source};
 use crate::digits::read_number;
 
-// Whether there are as many arguments, and the first is a word.
-fn begins(args: &[String], word: &str, count: usize) -> bool
-    requires { 1 ≤ count }
-    ensures { result ≡ nat_le count (length (map string_bytes args.now)) && bytes_eq (slice_index_or (map string_bytes args.now) 0 []) word.now }
-{
-    args.len() >= count && args[0].as_str() == word
-}
-
 // A width or a height.
 fn read_side(arg: &str) -> Option<usize>
     ensures { result ≡ number_of 65535 arg.now }
 {
-    read_number(arg.as_bytes(), 65535).map(|n| n as usize)
+    read_number(arg.as_bytes(), 65535).map(usize::from)
 }
 
 // The size of pages that memory is lent for, 1 to 4096.
@@ -28,11 +20,9 @@ pub fn read_size(arg: &str) -> Option<usize>
     ensures is { result ≡ size_of arg.now }
     ensures bound { IfSome result (λ n. n ≤ 4096) }
 {
-    let n = read_number(arg.as_bytes(), 4096)?;
-    if n < 1 {
-        return None;
-    }
-    Some(n as usize)
+    read_number(arg.as_bytes(), 4096)
+        .filter(|n| *n > 0)
+        .map(usize::from)
 }
 
 fn with_save<'a>(mut call: Call<'a>, path: &'a str) -> Option<Call<'a>>
@@ -80,42 +70,40 @@ fn with_options<'a>(call: Call<'a>, args: &'a [String]) -> Option<Call<'a>>
 }
 
 // `new W H` and options.
-fn new_call(args: &[String]) -> Option<Call<'_>>
-    requires { 3 ≤ length args.now }
-    ensures { option_map asked result ≡ new_page (number_of 65535 (slice_index_or (map string_bytes args.now) 1 [])) (number_of 65535 (slice_index_or (map string_bytes args.now) 2 [])) (drop 3 (map string_bytes args.now)) }
+fn new_call<'a>(wide: &str, high: &str, options: &'a [String]) -> Option<Call<'a>>
+    ensures { option_map asked result ≡ new_page (number_of 65535 wide.now) (number_of 65535 high.now) (map string_bytes options.now) }
 {
-    let wide = read_side(args[1].as_str())?;
-    let high = read_side(args[2].as_str())?;
+    let wide = read_side(wide)?;
+    let high = read_side(high)?;
     let call = Call {
         source: Source::New { wide, high },
         save: None,
         size: None,
     };
-    with_options(call, &args[3..])
+    with_options(call, options)
 }
 
 // `open FILE` and options.
-fn open_call(args: &[String]) -> Option<Call<'_>>
-    requires { 2 ≤ length args.now }
-    ensures { option_map asked result ≡ with_options (bare (file (slice_index_or (map string_bytes args.now) 1 []))) (drop 2 (map string_bytes args.now)) }
+fn open_call<'a>(path: &'a str, options: &'a [String]) -> Option<Call<'a>>
+    ensures { option_map asked result ≡ with_options (bare (file path.now)) (map string_bytes options.now) }
 {
     let call = Call {
-        source: Source::Open(args[1].as_str()),
+        source: Source::Open(path),
         save: None,
         size: None,
     };
-    with_options(call, &args[2..])
+    with_options(call, options)
 }
 
 // What a call's arguments, without the program's name, ask for; none where they are not as above.
 pub fn read_call(args: &[String]) -> Option<Call<'_>>
     ensures { option_map asked result ≡ call_of (map string_bytes args.now) }
 {
-    if begins(args, "new", 3) {
-        return new_call(args);
+    match args {
+        [word, wide, high, options @ ..] if word.as_str() == "new" => {
+            new_call(wide.as_str(), high.as_str(), options)
+        }
+        [word, path, options @ ..] if word.as_str() == "open" => open_call(path.as_str(), options),
+        _ => None,
     }
-    if begins(args, "open", 2) {
-        return open_call(args);
-    }
-    None
 }

@@ -8,23 +8,24 @@ use pixel::Pixel;
 use std::alloc::AllocError;
 
 // The number of a word of decimal digits, if it is at most `most`.
-pub(crate) fn read_number(word: &[u8], most: u16) -> Option<u32>
+pub(crate) fn read_number(word: &[u8], most: u16) -> Option<u16>
     ensures is { result ≡ number_of most word.now }
     ensures bound { IfSome result (λ n. n ≤ most) }
 {
-    // std's parse takes a sign, and so reads other words
+    // std's parse also takes a leading `+`
     let mut n: u32 = 0;
     for b in word {
         let digit = char::from(*b).to_digit(10)?;
         n = 10 * n + digit;
-        if n > most as u32 {
+        if n > u32::from(most) {
             return None;
         }
     }
-    Some(n)
+    Some(n as u16)
 }
 
 // The byte of two hex digits.
+// by hand here and below: the crate `hex` fills a list or a slice of its own, which would have to be copied behind `turn` or `out`, and its errors told apart: no plainer
 pub(crate) fn hex_pair(a: u8, b: u8) -> Option<u8>
     ensures { result ≡ hex_pair a b }
 {
@@ -38,7 +39,7 @@ fn hex_digit(n: u8) -> u8
     requires { n < 16 }
     ensures { result ≡ digit_char n }
 {
-    char::from_digit(n as u32, 16).unwrap() as u8
+    char::from_digit(u32::from(n), 16).unwrap() as u8
 }
 
 // Six hex digits behind the text, red, green and blue; or nothing where there is no memory.

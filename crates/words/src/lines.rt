@@ -52,10 +52,7 @@ fn read_hex(word: &[u8], turn: &mut Vec<u8>) -> Result<(), Unread>
 {
     let mut rest = word;
     while let [high, low, after @ ..] = rest {
-        let Some(b) = hex_pair(*high, *low) else {
-            return Err(Unread::NotUnderstood);
-        };
-        turn.push(b)?;
+        turn.push(hex_pair(*high, *low).ok_or(Unread::NotUnderstood)?)?;
         rest = after;
     }
     if rest.is_empty() {
@@ -77,7 +74,7 @@ fn read_field(field: Field, word: &[u8], turn: &mut Vec<u8>) -> Result<(), Unrea
         }
         Field::Short => {
             let n = read_number(word, 65535).ok_or(Unread::NotUnderstood)?;
-            turn.extend_from_slice(&(n as u16).to_le_bytes())?;
+            turn.extend_from_slice(&n.to_le_bytes())?;
             Ok(())
         }
         Field::Colour => {
@@ -95,6 +92,7 @@ fn read_fields(fields: &[Field], line: &[u8], turn: &mut Vec<u8>) -> Result<(), 
 {
     let mut rest = line;
     for field in fields {
+        // with `ok_or` and `?` in place of `else`, the proof did not close
         let Some((word, after)) = next_word(rest) else {
             return Err(Unread::NotUnderstood);
         };

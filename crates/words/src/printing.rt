@@ -8,6 +8,7 @@ use pixel::Pixel;
 use std::alloc::{AllocError, Global};
 
 // What stands before the pixels.
+// a match on the format here and below: there are two, and a trait of three methods would be no plainer
 fn heading(heap: Global, format: Format, wide: usize, high: usize) -> Result<String, AllocError>
     ensures { IfOk result (λ text. string_bytes text ≡ heading format wide high) }
 {
@@ -52,13 +53,14 @@ fn write_cells<P: Shows>(
 ) -> Result<(), AllocError>
     ensures { OnOk result (out.new.items ≡ out.old.items ++ cells format wide (λ x. P.seen page.now x y)) }
 {
+    // pixels are asked for by column and row, and are items of no slice
     for x in 0..wide {
         write_cell(format, x, page.pixel(x, y), out)?;
     }
     Ok(())
 }
 
-// The bytes that are printed of a page, whatever its sides: also of one that is larger than a Size.
+// The bytes that are printed of a page; two numbers and no Size, since pages of any sides can be printed.
 pub fn print<P: Shows>(
     heap: Global,
     format: Format,
@@ -69,6 +71,7 @@ pub fn print<P: Shows>(
     ensures { IfOk result (λ out. out.items ≡ printed format wide high (P.seen page.now)) }
 {
     let mut out = heading(heap, format, wide, high)?.into_bytes();
+    // rows too are asked for by number
     for y in 0..high {
         write_cells(format, page, wide, y, &mut out)?;
         end_row(format, &mut out)?;

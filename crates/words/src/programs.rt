@@ -63,11 +63,7 @@ impl From<Fault> for Stop {
 
 // The arguments of the call, without the program's name.
 fn arguments(rt: &HostRuntime) -> io::Result<Vec<String>> {
-    let mut args = Vec::new(rt.alloc());
-    for arg in env::args(rt)?.skip(1) {
-        args.push(arg)?;
-    }
-    Ok(args)
+    Ok(env::args(rt)?.skip(1).collect(rt.alloc())?)
 }
 
 // How a program ends: with success only where nothing was left out, and where it stopped, it says why.
@@ -89,7 +85,7 @@ fn end(rt: &HostRuntime, name: &str, outcome: Result<bool, Stop>) -> io::Result<
     }
 }
 
-// Does what the arguments ask of a program, or says how it is called: `act` gives nothing where they ask for nothing.
+// Does what the arguments ask of a program, or says how it is called: `act` answers None where the arguments are no call.
 pub fn perform<F: FnOnce(&[String]) -> Option<Result<bool, Stop>>>(
     rt: &HostRuntime,
     name: &str,

@@ -1,11 +1,14 @@
 // Scripts: turns in words, one to a line.
-ghost use Rattle.std.specs.Prelude.{◌≡◌, ◌<◌, [], ◌∷◌, length, IfOk, string_bytes, MatchOption};
+ghost use Rattle.std.specs.Prelude.{◌≡◌, ◌<◌, [], ◌∷◌, length, IfOk, string_bytes, MatchOption, Some};
 ghost use Rattle.words.specs.Lines.{understood};
-ghost use Rattle.words.specs.Script.{lines_of, TurnPlays, LinePlays, Plays};
+ghost use Rattle.words.specs.Script.{lines_of, LineTakes, Plays};
+ghost use Rattle.words.specs.declared.script.Trouble.TheVariants.{Fault as OfFault};
+ghost use Rattle.words.specs.declared.taking.Fault.TheVariants.{NoMemory};
 
 use crate::lines::{Line, read_line};
 use crate::taking::{Fault, Takes};
 use std::alloc::{AllocError, Global};
+use std::fmt;
 
 // The first line and what follows it, if there is one.
 pub fn next_line(text: &[u8]) -> Option<(&[u8], &[u8])>
@@ -20,45 +23,50 @@ pub fn next_line(text: &[u8]) -> Option<(&[u8], &[u8])>
     }
 }
 
-// Takes a turn of line `number`; false where it is refused, and `messages` then says why.
-fn take_turn<P: Takes>(
-    heap: Global,
-    page: &mut P,
-    number: usize,
-    turn: &[u8],
-    messages: &mut String,
-) -> Result<bool, AllocError>
-    ensures { IfOk result (λ ok. TurnPlays P.steps number turn.now page.old page.new (string_bytes messages.old) (string_bytes messages.new) ok) }
-{
-    match page.take(turn) {
-        Ok(()) => Ok(true),
-        Err(Fault::NoMemory) => Err(AllocError),
-        Err(Fault::Refused(why)) => {
-            let message = format!(in heap; "line {number}: {why}\n")?;
-            messages.push_str(message.as_str())?;
-            Ok(false)
+// Why a line is not played.
+#[derive(Clone, Copy, Debug, PartialEq, Eq)]
+enum Trouble {
+    NotUnderstood,
+    Fault(Fault),
+}
+
+impl fmt::Display for Trouble {
+    ghost use Rattle.words.specs.Script.{trouble_text};
+
+    ghost output = { λ trouble. Some (trouble_text trouble) };
+
+    fn fmt<W: fmt::Write>(&self, f: &mut fmt::Formatter<W>) -> fmt::Result {
+        match self {
+            Trouble::NotUnderstood => write!(f, "not understood"),
+            Trouble::Fault(fault) => write!(f, "{fault}"),
         }
     }
 }
 
-// Does what a line says; false where it is not understood, or its turn is refused.
-fn take_line<P: Takes>(
-    heap: Global,
-    page: &mut P,
-    number: usize,
-    line: &[u8],
-    messages: &mut String,
-) -> Result<bool, AllocError>
-    ensures { IfOk result (λ ok. LinePlays P.steps number (understood line.now) page.old page.new (string_bytes messages.old) (string_bytes messages.new) ok) }
+impl From<Fault> for Trouble {
+    ghost from_gives = { λ fault trouble. trouble ≡ OfFault fault };
+
+    fn from(fault: Fault) -> Trouble {
+        Trouble::Fault(fault)
+    }
+}
+
+impl From<AllocError> for Trouble {
+    ghost from_gives = { λ _ trouble. trouble ≡ OfFault NoMemory };
+
+    fn from(_failed: AllocError) -> Trouble {
+        Trouble::Fault(Fault::NoMemory)
+    }
+}
+
+// Does what a line says.
+fn take_line<P: Takes>(heap: Global, page: &mut P, line: &[u8]) -> Result<(), Trouble>
+    ensures { LineTakes P.steps result (understood line.now) page.old page.new }
 {
     match read_line(heap, line)? {
-        Line::Blank => Ok(true),
-        Line::Unknown => {
-            let message = format!(in heap; "line {number}: not understood\n")?;
-            messages.push_str(message.as_str())?;
-            Ok(false)
-        }
-        Line::Turn(turn) => take_turn(heap, page, number, turn.as_slice(), messages),
+        Line::Blank => Ok(()),
+        Line::Unknown => Err(Trouble::NotUnderstood),
+        Line::Turn(turn) => Ok(page.take(turn.as_slice())?),
     }
 }
 
@@ -72,13 +80,19 @@ pub fn play<P: Takes>(
     ensures { IfOk result (λ ok. Plays P.steps 1 (lines_of script.now) page.old page.new (string_bytes messages.old) (string_bytes messages.new) ok) }
 {
     let mut all = true;
-    // an iterator over the lines would be longer than the count that it saves
-    let mut number = 0;
+    // the library's `split` gives one more, empty line behind a last line feed, which the definition of lines does not have
+    let mut number: usize = 0;
     let mut rest = script;
     while let Some((line, after)) = next_line(rest) {
         number += 1;
-        let taken = take_line(heap, page, number, line, messages)?;
-        all = all & taken;
+        match take_line(heap, page, line) {
+            Ok(()) => {}
+            Err(Trouble::Fault(Fault::NoMemory)) => return Err(AllocError),
+            Err(why) => {
+                messages.push_str(format!(in heap; "line {number}: {why}\n")?.as_str())?;
+                all = false;
+            }
+        }
         rest = after;
     }
     Ok(all)

@@ -5,76 +5,77 @@ ghost use Rattle.words.specs.Table.{table, row_of, sizes};
 ghost use Rattle.words.specs.Lines.{named, fits_row};
 
 use crate::forms::{Field, Form};
+use codec::kinds::{Kind, REDO, UNDO};
 
 static FORMS: [Form; 14] = [
     Form {
         name: b"add",
-        head: &[0],
+        head: &[Kind::AddLayer as u8],
         fields: &[],
     },
     Form {
         name: b"drop",
-        head: &[1],
+        head: &[Kind::DropLayer as u8],
         fields: &[],
     },
     Form {
         name: b"choose",
-        head: &[2],
+        head: &[Kind::ChooseLayer as u8],
         fields: &[Field::Byte],
     },
     Form {
         name: b"raise",
-        head: &[3],
+        head: &[Kind::RaiseLayer as u8],
         fields: &[],
     },
     Form {
         name: b"mode",
-        head: &[4],
+        head: &[Kind::SetMode as u8],
         fields: &[Field::Byte],
     },
     Form {
         name: b"much",
-        head: &[5],
+        head: &[Kind::SetOpacity as u8],
         fields: &[Field::Short],
     },
     Form {
         name: b"shown",
-        head: &[6],
+        head: &[Kind::SetVisible as u8],
         fields: &[Field::Byte],
     },
     Form {
         name: b"merge",
-        head: &[7],
+        head: &[Kind::MergeDown as u8],
         fields: &[],
     },
     Form {
         name: b"all",
-        head: &[8],
+        head: &[Kind::SelectAll as u8],
         fields: &[],
     },
     Form {
         name: b"box",
-        head: &[9],
+        head: &[Kind::SelectRect as u8],
         fields: &[Field::Short, Field::Short, Field::Short, Field::Short],
     },
     Form {
         name: b"not",
-        head: &[11],
+        head: &[Kind::SelectInverse as u8],
         fields: &[],
     },
     Form {
         name: b"fill",
-        head: &[12],
+        head: &[Kind::Fill as u8],
         fields: &[Field::Colour],
     },
     Form {
         name: b"undo",
-        head: &[17],
+        head: &[UNDO],
         fields: &[],
     },
     Form {
         name: b"redo",
-        head: &[18],
+        head: &[REDO],
         fields: &[],
     },
 ];
@@ -103,7 +104,7 @@ pub fn find_named(forms: &[Form<'static>], name: &[u8]) -> Option<Form<'static>>
 fn have_size(fields: &[Field], bytes: usize) -> bool
     ensures { result ≡ (bytes == sizes fields.now) }
 {
-    // a sum of the sizes could pass a usize, for all that the types say
+    // no `sum`: nothing in the types keeps it from overflowing
     let mut left = bytes;
     for field in fields {
         let Some(rest) = left.checked_sub(field.size()) else {

@@ -15,8 +15,8 @@ fn write_field(field: Field, bytes: &[u8], out: &mut Vec<u8>) -> Result<(), Allo
     ensures { OnOk result (out.new.items ≡ out.old.items ++ field_word field bytes.now) }
 {
     match field {
-        Field::Byte => write_number(bytes[0] as usize, out),
-        Field::Short => write_number(u16::from_le_bytes([bytes[0], bytes[1]]) as usize, out),
+        Field::Byte => write_number(usize::from(bytes[0]), out),
+        Field::Short => write_number(usize::from(u16::from_le_bytes([bytes[0], bytes[1]])), out),
         Field::Colour => write_hex(&bytes[..4], out),
     }
 }

@@ -17,8 +17,8 @@ fn begun(heap: Global, wide: usize, high: usize) -> Result<Engine, Fail> {
 }
 
 // A file that is opened for pages of at most 64 by 64.
-fn opened(heap: Global, file: &[u8]) -> Result<Result<Engine, Fault>, Fail> {
-    Ok(Engine::open(heap, file.to_vec(heap)?, lent_for(64)))
+fn opened(heap: Global, file: &[u8]) -> Result<Engine, Fault> {
+    Engine::open(heap, file.to_vec(heap)?, lent_for(64))
 }
 
 // Plays a script on the page, and compares what is said and what is then seen.
@@ -45,7 +45,7 @@ fn refuses(
     number: u8,
     place: usize,
 ) -> Result<(), Fail> {
-    match opened(heap, file)? {
+    match opened(heap, file) {
         Err(Fault::Refused(why)) => {
             assert_eq!(rt; why.number(), number);
             assert_eq!(rt; why.place(), place);
@@ -100,7 +100,7 @@ fn kept_in_a_file(rt: HostRuntime) -> Result<(), Fail> {
         file.as_slice()
             == b"PAGE\x03\x00\x01\x00\x01\x00\x00\x00\x01\x00\x00\x00\x09\x01\x00\x00\x00\x01\x00\x01\x00\x0c\xff\x00\x00\xff".as_slice()
     );
-    let Ok(mut again) = opened(heap, file.as_slice())? else {
+    let Ok(mut again) = opened(heap, file.as_slice()) else {
         return Err(Fail::new("the file is refused"));
     };
     plays(&rt, heap, &mut again, "", "", WHITE)?;

@@ -9,6 +9,6 @@ returns g c =
     let bs = c.args.source.now in let e = c.args.edit in let S = g.S.Sink in
     on_ok_weaker c.put.result
     (λ put. subst (λ l. S.puts c.args.sink.now l c.put.new.self) (head_tail bs e (λ k. omega (arith, c.type_inv.source k)) c.requires.held)
-    (g.met.S.Sink.puts_both c.args.sink.now c.put_head.new.sink c.put.new.self (head_of e) (tail_of bs e) c.in_ok-put_head.ensures
-    (subst (λ l. S.puts c.put_head.new.sink l c.put.new.self) c.tail.ensures put)))
+    (g.met.S.Sink.puts_both c.args.sink.now c.put_edit_head.new.sink c.put.new.self (head_of e) (tail_of bs e) c.in_ok-put_edit_head.ensures
+    (subst (λ l. S.puts c.put_edit_head.new.sink l c.put.new.self) c.tail.ensures put)))
     c.put.ensures

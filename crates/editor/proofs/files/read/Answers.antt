@@ -23,4 +23,4 @@ returns c =
     let row = c.read_slots.ensures.row (done_of bs f ++ undone_of bs f) (taken_row bs _ f t) (taken_long bs _ f t) in
     read_ends bs c.args.turns.now c.args.tiles.now c.args.work.now c.read_slots.new.turns c.remake-canvas.new.tiles c.args.work.now f _ _ (c.in_ok-head.ensures.scans ∙ ap (read_file bs) c.lengths.ensures)
     c.read_slots.ensures.long made.long refl
-    (opened bs _ f _ c.read_slots.new.turns c.remake-canvas.new.tiles t (ap (λ (z : Size). z.wide) made.size_is) (ap (λ (z : Size). z.high) made.size_is) refl refl refl row (made.long ∙ tiles) made.holds)
+    (opened bs _ f _ c.read_slots.new.turns c.remake-canvas.new.tiles t (ap (λ (z : Size). z.wide) made.size_is ∙ c.from.ensures) (ap (λ (z : Size). z.high) made.size_is ∙ c.from-2.ensures) refl refl refl row (made.long ∙ tiles) made.holds)

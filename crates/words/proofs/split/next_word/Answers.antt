@@ -1,29 +1,24 @@
-use Rattle.std.proofs.Common.{◌<◌, true, false, length, take, drop, sym, ap, ◌∙◌, arith}
-use Rattle.std.proofs.lemmas.List.{nil_from_length}
-use Rattle.std.proofs.lemmas.Bool.{eqb-true, eqb-false}
-use Rattle.words.specs.Split.{words_of}
-use Rattle.words.proofs.Splitting.{run_within, spaces_off, first_word}
+use Rattle.std.proofs.Common.{◌∙◌, ◌-◌, ap, sym, length, take, drop, unwrap_or, true, false, arith, rules, tests, length-drop}
+use Rattle.std.proofs.lemmas.List.{take_all}
+use Rattle.std.proofs.lemmas.Iterator.{YieldsList-from_slice}
+use Rattle.std.proofs.lemmas.Iterator.Search.{position_from_yields_List}
+use Rattle.words.specs.Split.{ends_run}
+use Rattle.words.proofs.Splitting.{place_or_end, no_start, first_at}
 use Rattle.words.proofs.split.next_word.Goals as goal
 
-pub split_at-requires : goal.split_at-requires
-split_at-requires c = rw c.run.ensures (run_within true c.args.line.now)
-
-pub returns-then-is_empty : goal.returns-then-is_empty
-returns-then-is_empty c =
+pub returns-in_err-start : goal.returns-in_err-start
+returns-in_err-start c =
     let xs = c.args.line.now in
-    let none = nil_from_length c.split_at.result.1.now (eqb-true _ _ (sym c.if-is_empty.ensures)) in
-    let back = c.split_at.ensures.back ∙ ap (λ n. drop n xs) c.run.ensures in
-    sym (spaces_off xs) ∙ ap words_of (sym back ∙ none)
-
-pub split_at-requires-2 : goal.split_at-requires-2
-split_at-requires-2 c = rw c.run-2.ensures (run_within false c.split_at.result.1.now)
+    let found = position_from_yields_List (ends_run true) _ _ c.position.result c.position.ensures.ran (YieldsList-from_slice xs (cc)) (λ x b q k. search (rules, tests)) in
+    rw c.from_residual.ensures (no_start xs (sym found ∙ c.in_err-start.was))
 
 pub returns : goal.returns
 returns c =
     let xs = c.args.line.now in
-    let rest = c.split_at.result.1.now in
-    let some : 0 < length rest = omega (arith, eqb-false (length rest) 0 (sym c.if-is_empty.ensures)) in
-    let back = c.split_at.ensures.back ∙ ap (λ n. drop n xs) c.run.ensures in
-    let front = c.split_at-2.ensures.front ∙ ap (λ n. take n rest) c.run-2.ensures in
-    let behind = c.split_at-2.ensures.back ∙ ap (λ n. drop n rest) c.run-2.ensures in
-    first_word xs rest c.split_at-2.result.0.now c.split_at-2.result.1.now back some front behind
+    let start = c.in_ok-start.start in
+    let rest = take (length xs - start) (drop start xs) in
+    let found = position_from_yields_List (ends_run true) _ _ c.position.result c.position.ensures.ran (YieldsList-from_slice xs (cc)) (λ x b q k. search (rules, tests)) in
+    let last = position_from_yields_List (ends_run false) _ _ c.position-2.result c.position-2.ensures.ran (YieldsList-from_slice rest (cc)) (λ x b q k. search (rules, tests)) in
+    let ends = c.unwrap_or-end.ensures ∙ (ap (λ o. unwrap_or o (length rest)) last ∙ place_or_end (ends_run false) rest) in
+    first_at xs rest c.split_at.result.0.now c.split_at.result.1.now start c.unwrap_or-end.result (sym found ∙ c.in_ok-start.was)
+    (take_all (length xs - start) (drop start xs) (omega (arith, length-drop start xs))) ends c.split_at.ensures.front c.split_at.ensures.back

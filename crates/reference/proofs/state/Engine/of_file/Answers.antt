@@ -23,8 +23,8 @@ returns c =
     let es = vec_items c.in_ok-edits.edits in
     let so = subst (λ (b : List ℕ). Listed b (f.done + f.undone) es) c.as_slice.ensures.value c.in_ok-edits.ensures in
     record {
-      wide_is = refl;
-      high_is = refl;
+      wide_is = c.from.ensures;
+      high_is = c.from-2.ensures;
       taken_is = refl;
       done_is = ap (λ ms. in_order ms []) (done_means bs c.requires.0 f c.requires.1 es so);
       undone_is = undone_means bs c.requires.0 f c.requires.1 es so;
