@@ -93,7 +93,7 @@ fn lines_in(script: &[u8]) -> usize {
         .saturating_add(1)
 }
 
-// The page that the call begins with.
+// The page that the call begins with; `size` is a number and no Size, as the call has it.
 fn start(rt: &HostRuntime, source: Source, size: usize, lines: usize) -> Result<Desk, Stop>
     requires { size ≤ 4096 }
 {

@@ -36,7 +36,7 @@ fn against_turn(editor: &Editor, lent: Lengths) -> Option<Refusal>
     against_edit(lent.turns, editor.taken, 0).or(enough.err())
 }
 
-// A blank page.
+// A blank page. Two numbers and no Size: this is the test of them.
 pub fn begin(
     width: usize,
     height: usize,

@@ -17,7 +17,7 @@ use words::showing::Format;
 const USAGE: &str =
     "usage: plain new W H [--save FILE] [--size N]\n       plain open FILE [--save FILE] [--size N]";
 
-// The page that the call begins with.
+// The page that the call begins with; `size` is a number and no Size, as `lent_for` takes it.
 fn begin(rt: &HostRuntime, source: Source, size: usize) -> Result<Engine, Stop>
     requires { size ≤ 4096 }
 {

@@ -47,7 +47,7 @@ fn append_turn(bytes: &mut Vec<u8>, turn: &[u8]) -> Result<Edit, AllocError>
 }
 
 impl Engine {
-    // A blank page, with no turns yet.
+    // A blank page, with no turns yet. Two numbers and no Size: this is the test of them.
     pub fn begin(heap: Global, wide: usize, high: usize) -> Result<Engine, Refusal>
         ensures { Begins (size_refusal wide high) wide high result }
     {
@@ -82,6 +82,7 @@ impl Engine {
     pub fn remake(&self, tiles: &mut [u8]) -> Result<Canvas, Refusal>
         ensures { Remade self.now tiles.old tiles.new result }
     {
+        // not `Lengths::enough`, which asks for work too
         if tiles.len() < 544 * self.size.area() {
             return Err(Refusal::Short(Lent::Tiles));
         }

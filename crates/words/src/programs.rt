@@ -86,6 +86,7 @@ fn end(rt: &HostRuntime, name: &str, outcome: Result<bool, Stop>) -> io::Result<
 }
 
 // Does what the arguments ask of a program, or says how it is called: `act` answers None where the arguments are no call.
+// What `act` gives is three answers (no call, stopped, whether all was done), since the first is no error of what only acts.
 pub fn perform<F: FnOnce(&[String]) -> Option<Result<bool, Stop>>>(
     rt: &HostRuntime,
     name: &str,

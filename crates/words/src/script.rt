@@ -71,6 +71,7 @@ fn take_line<P: Takes>(heap: Global, page: &mut P, line: &[u8]) -> Result<(), Tr
 }
 
 // Takes the turns of all lines; false where one was not taken. `messages` says which, and why.
+// A flag beside the text, since later lines are taken all the same, and a caller need not look at the text.
 pub fn play<P: Takes>(
     heap: Global,
     page: &mut P,
