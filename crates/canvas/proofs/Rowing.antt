@@ -4,7 +4,7 @@ use Rattle.std.proofs.lemmas.Nat.{mul-le}
 use Rattle.pixel.specs.Bytes.{BytesTo}
 use Rattle.canvas.specs.Rows.{RowsTo}
 
-row_fits : (r h w : ℕ) → r < h → (r + 1) * w ≤ h * w
+pub row_fits : (r h w : ℕ) → r < h → (r + 1) * w ≤ h * w
 row_fits r h w l = mul-le (r + 1) w h w (omega arith) (le_refl w)
 
 -- one more row

@@ -203,7 +203,7 @@ read_turn_means bs against r e fit =
     (λ g. does_means bs fit (eqb-false (get_or bs 0 0) 17 h) (eqb-false (get_or bs 0 0) 18 g) against (taken_end bs 0 against) refl)))
 
 -- a turn that is no undo and no redo
-other_turn : (bs : List ℕ) (against : Option Refusal) → (get_or bs 0 0 ≡ 17 → ⊥) → (get_or bs 0 0 ≡ 18 → ⊥) → read_turn bs against ≡ whole_edit bs (taken_end bs 0 against)
+pub other_turn : (bs : List ℕ) (against : Option Refusal) → (get_or bs 0 0 ≡ 17 → ⊥) → (get_or bs 0 0 ≡ 18 → ⊥) → read_turn bs against ≡ whole_edit bs (taken_end bs 0 against)
 other_turn bs against a b = cond-false _ _ _ (ne_eqb (get_or bs 0 0) 17 a) ∙ cond-false _ _ _ (ne_eqb (get_or bs 0 0) 18 b)
 
 -- a turn that is written is read as the same

@@ -28,7 +28,7 @@ pub first_kind : (bs : List ℕ) (at : ℕ) (e : page.Edit) (rest : List ℕ) �
 first_kind bs at e rest d = ap (λ m. get_or bs m 0) (sym (add-zero at)) ∙ (sym (get_or-drop at bs 0 0) ∙ (ap (λ l. get_or l 0 0) d ∙ kind_first e rest 0))
 
 -- one more edit, at a count that is not 0
-edits_more : (bs : List ℕ) (turns k c at : ℕ) → 0 < c → edits_end bs turns k c at ≡ on_ok (taken_end bs at (against_edit turns k at)) (edits_end bs turns (k + 1) (c - 1))
+pub edits_more : (bs : List ℕ) (turns k c at : ℕ) → 0 < c → edits_end bs turns k c at ≡ on_ok (taken_end bs at (against_edit turns k at)) (edits_end bs turns (k + 1) (c - 1))
 edits_more bs turns k zero at h = absurd (omega arith)
 edits_more bs turns k (suc c) at h = let e : suc c - 1 ≡ c = omega arith in rw e
 

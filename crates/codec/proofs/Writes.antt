@@ -1,7 +1,8 @@
 -- What is put, piece after piece, is the writing of the edit.
-use Rattle.std.proofs.Common.{◌≡◌, ℕ, ◌+◌, ◌-◌, ◌*◌, ◌<◌, ◌≤◌, List, [], ◌∷◌, ◌++◌, map, length, get_or, take, drop, Ok, sym, refl, ap, ◌∙◌, subst, arith}
+use Rattle.std.proofs.Common.{◌≡◌, ℕ, ◌+◌, ◌-◌, ◌*◌, ◌<◌, ◌≤◌, List, [], ◌∷◌, ◌++◌, map, length, get_or, take, drop, Ok, Result, sym, refl, ap, ◌∙◌, subst, arith}
 use Rattle.std.proofs.lemmas.List.{append_assoc, take_at, take-append-drop, length-append, length-drop, length-map, length_push, length-take-le, flat_map_more, map-append, map_more, take-map, get_or-map}
 use Rattle.std.proofs.lemmas.List.Folds.{length-flat_map-take}
+use Rattle.std.proofs.lemmas.Bool.{le-leb, cond-true}
 use Rattle.page.specs.Edits as page
 use Rattle.page.specs.Edits.{add_layer, drop_layer, choose_layer, raise_layer, set_mode, set_opacity, set_visible, merge_down, select_all, select_rect, select_similar, select_inverse, fill, stroke, apply_filter, copy, paste}
 use Rattle.page.specs.Filters as filters
@@ -10,6 +11,7 @@ use Rattle.page.specs.Fits.{Fits, FilterFits}
 use Rattle.codec.specs.declared.edits.Edit.{Edit}
 use Rattle.codec.specs.declared.edits.Edit.TheVariants.{AddLayer, DropLayer, ChooseLayer, RaiseLayer, SetMode, SetOpacity, SetVisible, MergeDown, SelectAll, SelectRect, SelectSimilar, SelectInverse, Fill, Stroke, ApplyFilter, Copy, Paste}
 use Rattle.codec.specs.declared.edits.Filter.TheVariants.{Invert, Curve, BoxBlur, Edges}
+use Rattle.codec.specs.declared.edits.Refusal.{Refusal}
 use Rattle.codec.specs.Written.{written, filter_written, points}
 use Rattle.codec.specs.Meaning.{edit_of, Bytes, points_at, Held}
 use Rattle.std.specs.List.{flat_map, All}
@@ -18,7 +20,8 @@ use Rattle.codec.specs.Scan.{end_of, edit_at}
 use Rattle.codec.specs.Laws.{EditGood}
 use Rattle.codec.specs.Files.{all_written, file_head}
 pub use Rattle.codec.specs.Sinks.{put_put}
-use Rattle.codec.specs.Put.{put_at, head_of, tail_of, file_of, file_room}
+use Rattle.codec.specs.Sinks.{length-put_at}
+use Rattle.codec.specs.Put.{put_at, head_of, tail_of, file_of, file_room, file_put, file_answer}
 use Rattle.codec.proofs.Sound.{length-points, points_then, reads_written}
 use Rattle.codec.proofs.Complete.{length-points as size-points}
 use Rattle.codec.proofs.Means.{written_long}
@@ -56,6 +59,20 @@ head_tail bs (Paste x y) fit held = refl
 
 pub length_head : (bs : List ℕ) (e : Edit) → Bytes bs → Held bs e → length (head_of e) + length (tail_of bs e) ≡ length (written (edit_of bs e))
 length_head bs e fit held = sym (length-append (head_of e) (tail_of bs e)) ∙ ap length (head_tail bs e fit held)
+
+-- the tail put behind the head that was put
+module _
+    (bs : List ℕ) (e : Edit) (fit : Bytes bs) (held : Held bs e) (xs mid : List ℕ) (at then : ℕ)
+    (fits : at + length (written (edit_of bs e)) ≤ length xs) (mid_is : mid ≡ put_at xs at (head_of e)) (then_is : then ≡ at + length (head_of e))
+  where
+    pub then_room : then + length (tail_of bs e) ≤ length mid
+    then_room = omega (arith, then_is, length_head bs e fit held, ap length mid_is ∙ length-put_at xs at (head_of e) (omega (arith, length_head bs e fit held)))
+
+    pub then_put : put_at mid then (tail_of bs e) ≡ put_at xs at (written (edit_of bs e))
+    then_put = rw (mid_is, then_is) (put_put xs at (head_of e) (tail_of bs e) (omega (arith, length_head bs e fit held)) ∙ ap (put_at xs at) (head_tail bs e fit held))
+
+    pub then_end : then + length (tail_of bs e) ≡ at + length (written (edit_of bs e))
+    then_end = omega (arith, then_is, length_head bs e fit held)
 
 -- the bytes of an edit that is read are its writing, and are there
 module _ (bs : List ℕ) (at n : ℕ) (fit : Bytes bs) (e : end_of bs at ≡ Ok n) where
@@ -170,5 +187,18 @@ module _ (bs : List ℕ) (w h : ℕ) (edits : List Edit) (done : ℕ) (within : 
   pub file_size : length (file_head w h done (length edits - done)) + length (all_written (map (edit_of bs) edits)) ≡ length (file_of bs w h edits done)
   file_size = sym (length-append (file_head w h done (length edits - done)) (all_written (map (edit_of bs) edits))) ∙ ap length file_pieces
 
-  pub file_short : All (EditGood bs) edits → length (file_of bs w h edits done) ≤ file_room edits
-  file_short good = omega (arith, file_size, rows_short bs edits good)
+  -- the edits put behind the head that was put
+  module _ (out mid : List ℕ) (at : ℕ) (room : file_room edits ≤ length out) (mid_is : mid ≡ put_at out 0 (file_head w h done (length edits - done))) (at_is : at ≡ 16) where
+    pub edits_room : All (EditGood bs) edits → at + length (all_written (map (edit_of bs) edits)) ≤ length mid
+    edits_room good =
+        omega (arith, at_is, rows_short bs edits good, ap length mid_is ∙ length-put_at out 0 (file_head w h done (length edits - done)) (omega arith))
+
+    pub put_file : (last : List ℕ) → last ≡ put_at mid at (all_written (map (edit_of bs) edits)) → last ≡ file_put out (file_of bs w h edits done) edits
+    put_file last e =
+        e ∙ (rw (mid_is, at_is) (put_put out 0 (file_head w h done (length edits - done)) (all_written (map (edit_of bs) edits)) (omega arith))
+        ∙ (ap (put_at out 0) file_pieces ∙ sym (cond-true _ _ _ (le-leb (file_room edits) (length out) room))))
+
+    pub file_end : (r : ℕ) → r ≡ at + length (all_written (map (edit_of bs) edits)) → ◌≡◌ {A = Result ℕ Refusal} (Ok r) (file_answer out (file_of bs w h edits done) edits)
+    file_end r e =
+        let size : r ≡ length (file_of bs w h edits done) = omega (arith, file_size) in
+        ap (λ (n : ℕ). let x : Result ℕ Refusal = Ok n in x) size ∙ sym (cond-true _ _ _ (le-leb (file_room edits) (length out) room))

@@ -1,6 +1,7 @@
 -- Bytes put into others, and what the writer puts. Assumes nothing.
-use Rattle.std.specs.Prelude.{ℕ, ◌+◌, ◌*◌, if◌then◌else◌, List, [], ◌∷◌, ◌++◌, map, length, take, drop, Ok, Err, Result, nat_le}
+use Rattle.std.specs.Prelude.{ℕ, ◌+◌, ◌-◌, ◌*◌, if◌then◌else◌, List, [], ◌∷◌, ◌++◌, map, length, take, drop, Ok, Err, Result, nat_le}
 use Rattle.codec.specs.declared.edits.Edit.{Edit}
+use Rattle.codec.specs.declared.file.File.{File as Head}
 use Rattle.codec.specs.declared.listing.Listing.{Listing}
 use Rattle.codec.specs.declared.edits.Edit.TheVariants.{AddLayer, DropLayer, ChooseLayer, RaiseLayer, SetMode, SetOpacity, SetVisible, MergeDown, SelectAll, SelectRect, SelectSimilar, SelectInverse, Fill, Stroke, ApplyFilter, Copy, Paste}
 use Rattle.codec.specs.declared.edits.Filter.{Filter}
@@ -73,6 +74,10 @@ file_of bs w h edits done = file_written w h (map (edit_of bs) (take done edits)
 
 abbrev pub file_listed : Listing → List ℕ
 file_listed l = file_of l.source.now l.width l.height l.edits.now l.done
+
+-- what stands in it before the edits
+abbrev pub listed_head : Listing → Head
+listed_head l = record { width = l.width; height = l.height; done = l.done; undone = length l.edits.now - l.done }
 
 -- what is lent for it
 abbrev pub file_room : List Edit → ℕ

@@ -139,21 +139,6 @@ fn head_bytes(file: File) -> [u8; 16]
     ]
 }
 
-// Puts the file of what is listed.
-fn put_file<S: Sink>(sink: &mut S, listing: Listing) -> Result<(), S::Error>
-    requires { S.fits sink.old (length (file_listed listing)) }
-    ensures { OnOk result (S.puts sink.old (file_listed listing.entry) sink.new) }
-{
-    let file = File {
-        width: listing.width,
-        height: listing.height,
-        done: listing.done as u32,
-        undone: (listing.edits.len() - listing.done) as u32,
-    };
-    sink.put(&head_bytes(file))?;
-    put_edits(sink, listing.edits, listing.source)
-}
-
 // Copies `piece` into `out` from `at` on, and says where it ends.
 fn put(out: &mut [u8], at: usize, piece: &[u8]) -> usize
     requires { at + length piece.now ≤ length out.old }
@@ -165,6 +150,17 @@ fn put(out: &mut [u8], at: usize, piece: &[u8]) -> usize
     cursor.at
 }
 
+// Writes the edit up to its points or numbers into `out` from `at` on, and says where it ends.
+fn write_edit_head(out: &mut [u8], at: usize, edit: Edit) -> usize
+    requires { at + length (head_of edit) ≤ length out.old }
+    ensures after { out.new ≡ put_at out.old at (head_of edit) }
+    ensures end { result ≡ at + length (head_of edit) }
+{
+    let mut cursor = Cursor { out, at };
+    let Ok(()) = put_edit_head(&mut cursor, edit);
+    cursor.at
+}
+
 // Writes the edit, read from `source`, into `out` from `at` on, and says where it ends.
 pub fn write_edit(out: &mut [u8], at: usize, edit: Edit, source: &[u8]) -> usize
     requires held { Held source.now edit }
@@ -172,9 +168,8 @@ pub fn write_edit(out: &mut [u8], at: usize, edit: Edit, source: &[u8]) -> usize
     ensures after { out.new ≡ put_at out.old at (written (edit_of source.now edit)) }
     ensures end { result ≡ at + length (written (edit_of source.now edit)) }
 {
-    let mut cursor = Cursor { out, at };
-    let Ok(()) = put_edit(&mut cursor, edit, source);
-    cursor.at
+    let then = write_edit_head(out, at, edit);
+    put(out, then, tail(edit, source))
 }
 
 // Copies the edit that stands in `source` from `at` to `end` into `out` from `to` on, and says where it ends there.
@@ -197,6 +192,18 @@ pub fn write_head(out: &mut [u8], file: File) -> usize
     put(out, 0, &head_bytes(file))
 }
 
+// Writes the edits one after the other, read from `source`, into `out` from `at` on, and says where they end.
+fn write_edits(out: &mut [u8], at: usize, edits: &[Edit], source: &[u8]) -> usize
+    requires held { All (Held source.now) edits.now }
+    requires fits { at + length (all_written (map (edit_of source.now) edits.now)) ≤ length out.old }
+    ensures after { out.new ≡ put_at out.old at (all_written (map (edit_of source.now) edits.now)) }
+    ensures end { result ≡ at + length (all_written (map (edit_of source.now) edits.now)) }
+{
+    let mut cursor = Cursor { out, at };
+    let Ok(()) = put_edits(&mut cursor, edits, source);
+    cursor.at
+}
+
 // Writes the file of what is listed, and says how long it is.
 pub fn write_file(out: &mut [u8], listing: Listing) -> Result<usize, Refusal>
     requires { All (EditGood listing.source.now) listing.edits.now }
@@ -206,9 +213,8 @@ pub fn write_file(out: &mut [u8], listing: Listing) -> Result<usize, Refusal>
     if out.len() < 16 + 8192 * listing.edits.len() {
         return Err(Refusal::Short(Lent::File));
     }
-    let mut cursor = Cursor { out, at: 0 };
-    let Ok(()) = put_file(&mut cursor, listing);
-    Ok(cursor.at)
+    let at = write_head(out, listing.head());
+    Ok(write_edits(out, at, listing.edits, listing.source))
 }
 
 // Adds the edit, read from `source`. Without memory for all of it, a part of it may have been added.
@@ -231,5 +237,6 @@ pub fn append_head(out: &mut Vec<u8>, file: File) -> Result<(), AllocError>
 pub fn append_file(out: &mut Vec<u8>, listing: Listing) -> Result<(), AllocError>
     ensures { OnOk result (out.new.items ≡ out.old.items ++ file_listed listing.entry) }
 {
-    put_file(out, listing)
+    append_head(out, listing.head())?;
+    put_edits(out, listing.edits, listing.source)
 }

@@ -85,12 +85,13 @@ fn open(heap: Global, file: &[u8], most: usize, lines: usize) -> Result<Desk, Fa
 }
 
 // How many lines there may be in a script.
+// A sum in a loop: `filter` and `count` took twice as many instructions for each byte.
 fn lines_in(script: &[u8]) -> usize {
-    script
-        .iter()
-        .filter(|b| **b == b'\n')
-        .count()
-        .saturating_add(1)
+    let mut feeds: usize = 0;
+    for b in script {
+        feeds += usize::from(*b == b'\n');
+    }
+    feeds.saturating_add(1)
 }
 
 // The page that the call begins with; `size` is a number and no Size, as the call has it.

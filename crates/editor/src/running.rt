@@ -19,5 +19,6 @@ pub fn run(
     ensures played { IfOk result (λ ok. Plays DeskSteps 1 (lines_of script.now) desk.old desk.new (string_bytes messages.old) (string_bytes messages.new) ok) }
     ensures shown { OnOk result (RunsRow script.now (desk_of desk.old) (desk_of desk.new)) }
 {
-    play(heap, desk, script, messages)
+    let all = play(heap, desk, script, messages)?;
+    Ok(all)
 }

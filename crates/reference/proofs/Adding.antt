@@ -13,7 +13,7 @@ use Rattle.codec.proofs.Complete.{written_read}
 use Rattle.codec.proofs.Growing.{held_reach}
 use Rattle.reference.specs.Lists.{Good}
 
-read_behind : (bs turn : List ℕ) (e : page.Edit) → EditBytes turn e → edit_of (bs ++ turn) (edit_and_end (bs ++ turn) (length bs)).0 ≡ e
+pub read_behind : (bs turn : List ℕ) (e : page.Edit) → EditBytes turn e → edit_of (bs ++ turn) (edit_and_end (bs ++ turn) (length bs)).0 ≡ e
 read_behind bs turn e b =
     let stands : drop (length bs) (bs ++ turn) ≡ written e ++ [] = drop_at bs turn (length bs) refl ∙ b.is ∙ sym (append-nil (written e)) in
     let law = written_read (bs ++ turn) [] (length bs) e b.fits stands in

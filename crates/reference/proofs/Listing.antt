@@ -37,11 +37,11 @@ undone_more bs es k l = ap (meanings bs) (drop-cons es k AddLayer l) ∙ ap (λ 
 abbrev pub both : List page.Edit → List page.Edit → History
 both ds us = record { done = ds; undone = us }
 
-redone : (bs : List ℕ) (es : List Edit) (d : ℕ) → d < length es → history_of bs es (d + 1) ≡ turned (history_of bs es d) redo
+pub redone : (bs : List ℕ) (es : List Edit) (d : ℕ) → d < length es → history_of bs es (d + 1) ≡ turned (history_of bs es d) redo
 redone bs es d l =
     ap (λ ds. both ds (history_of bs es (d + 1)).undone) (done_more bs es d l) ∙ sym (ap (λ us. redone_once us (history_of bs es d)) (undone_more bs es d l))
 
-none_redone : (bs : List ℕ) (es : List Edit) (d : ℕ) → length es ≤ d → history_of bs es d ≡ turned (history_of bs es d) redo
+pub none_redone : (bs : List ℕ) (es : List Edit) (d : ℕ) → length es ≤ d → history_of bs es d ≡ turned (history_of bs es d) redo
 none_redone bs es d l = sym (ap (λ us. redone_once (meanings bs us) (history_of bs es d)) (drop_all d es l))
 
 -- redo, as far as there are edits

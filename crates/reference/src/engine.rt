@@ -1,11 +1,11 @@
 // Turns: an edit, undo or redo, over a plain list of edits; and the page made anew.
-ghost use Rattle.std.specs.Prelude.{◌≡◌, ◌+◌, ◌≤◌, [], ◌∷◌, ◌++◌, take, is_ok, if◌then◌else◌, IfOk, vec_len};
+ghost use Rattle.std.specs.Prelude.{◌≡◌, ◌+◌, ◌<◌, ◌≤◌, None, Ok, [], ◌∷◌, ◌++◌, take, is_ok, if◌then◌else◌, IfOk, vec_len};
 ghost use Rattle.page.specs.Edits.{Edit as Model};
 ghost use Rattle.codec.specs.Files.{size_refusal};
-ghost use Rattle.codec.specs.Laws.{EditBytes};
+ghost use Rattle.codec.specs.Laws.{EditBytes, Taken};
 ghost use Rattle.codec.specs.Meaning.{edit_of};
 ghost use Rattle.reference.specs.Lists.{Good};
-ghost use Rattle.reference.specs.Turning.{against, Begins, Turns, Remade};
+ghost use Rattle.reference.specs.Turning.{against, Begins, TurnedBy, Turns, Remade};
 
 use crate::applying::replay;
 use crate::state::Engine;
@@ -61,11 +61,13 @@ impl Engine {
         })
     }
 
-    // One turn, by its bytes. Undo and redo change nothing where there is no edit for them.
-    pub fn turn(&mut self, bytes: &[u8]) -> Result<(), Fault>
-        ensures { Turns bytes.now self.old self.new result }
+    // What a turn that is taken does. Undo and redo change nothing where there is no edit for them.
+    fn step(&mut self, turn: Turn, bytes: &[u8]) -> Result<(), Fault>
+        requires is { Taken bytes.now None turn }
+        requires few { self.old.taken < 65536 }
+        ensures { TurnedBy bytes.now (Ok turn) self.old self.new result }
     {
-        match read_turn(bytes, against_turn(self.taken))? {
+        match turn {
             Turn::Undo => self.done = self.done.saturating_sub(1),
             Turn::Redo => self.done = self.edits.len().min(self.done + 1),
             Turn::Does(_) => {
@@ -76,6 +78,14 @@ impl Engine {
         }
         self.taken += 1;
         Ok(())
+    }
+
+    // One turn, by its bytes.
+    pub fn turn(&mut self, bytes: &[u8]) -> Result<(), Fault>
+        ensures { Turns bytes.now self.old self.new result }
+    {
+        let turn = read_turn(bytes, against_turn(self.taken))?;
+        self.step(turn, bytes)
     }
 
     // The page of the done edits, made anew in the lent bytes.

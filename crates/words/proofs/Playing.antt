@@ -56,7 +56,7 @@ module _ {P : Type 0} (steps : P → List ℕ → Result (Unit {0}) Fault → P 
   abbrev pub Onward : ℕ → List (List ℕ) → P → List ℕ → Bool → List (List ℕ) → P → List ℕ → Type 0
   Onward n ls p old all ls₀ p₀ old₀ = (q : P) (new : List ℕ) (b : Bool) → Plays steps n ls p q old new b → Plays steps 1 ls₀ p₀ q old₀ new (all && b)
 
-  trouble_plays : (n : ℕ) (why : Trouble) (says : Says) (p m : P) (old said : List ℕ) → LineTakes steps (Err why) says p m → (why ≡ OfFault NoMemory → ⊥) →
+  pub trouble_plays : (n : ℕ) (why : Trouble) (says : Says) (p m : P) (old said : List ℕ) → LineTakes steps (Err why) says p m → (why ≡ OfFault NoMemory → ⊥) →
       said ≡ old ++ told_of n why → LinePlays steps n says p m old said false
   trouble_plays n NotUnderstood blank p m old said h some is = absurd (search rules)
   trouble_plays n NotUnderstood unknown p m old said h some is = (h.1, is, refl)

@@ -1,5 +1,5 @@
 -- What a line says, the words of a turn, and the law that joins them. Assumes nothing.
-use Rattle.std.specs.Prelude.{All, ◌≡◌, ℕ, ◌<◌, Bool, if◌then◌else◌, ◌&&◌, List, [], ◌∷◌, ◌++◌, length, take, drop, Some, None, codes, find, Ok, Err, vec_items, Result, ⊤, Option, ◌==◌, slice_index}
+use Rattle.std.specs.Prelude.{All, ◌≡◌, ℕ, ◌<◌, Bool, if◌then◌else◌, ◌&&◌, List, [], ◌∷◌, ◌++◌, length, take, drop, Some, None, codes, find, Ok, Err, Result, ⊤, Option, ◌==◌, slice_index}
 use Rattle.std.specs.Fmt.{option_append}
 use Rattle.std.specs.Str.{bytes_eq}
 use Rattle.words.specs.declared.lines.Line.{Line}
@@ -35,11 +35,11 @@ pub data Says : Type 0 where
   turn : List ℕ → Says
   unknown : Says
 
--- what a line in code says
-abbrev pub said : Line → Says
-said Blank = blank
-said (Turn bs) = turn (vec_items bs)
-said Unknown = unknown
+-- what a line in code says, with the bytes beside it: those of its turn, and else none
+abbrev pub LineSays : Line → List ℕ → Says → Type 0
+LineSays Blank bs says = (says ≡ blank) × (bs ≡ [])
+LineSays Turn bs says = says ≡ turn bs
+LineSays Unknown bs says = (says ≡ unknown) × (bs ≡ [])
 
 abbrev pub says_turn : Option (List ℕ) → Says
 says_turn (Some bs) = turn bs

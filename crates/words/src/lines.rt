@@ -5,20 +5,20 @@ ghost use Rattle.words.specs.declared.lines.Unread.TheVariants.{NoMemory};
 ghost use Rattle.words.specs.Digits.{hex_bytes};
 ghost use Rattle.words.specs.Table.{table, field_bytes, fields_bytes};
 ghost use Rattle.words.specs.Split.{words_of};
-ghost use Rattle.words.specs.Lines.{ReadsOn, hex_words, raw_bytes, row_bytes, named, said, understood};
+ghost use Rattle.words.specs.Lines.{ReadsOn, hex_words, raw_bytes, row_bytes, named, LineSays, understood};
 
 use crate::digits::{hex_pair, read_number};
 use crate::forms::Field;
 use crate::split::{at_end, next_word};
 use crate::table::{find_named, forms};
-use std::alloc::{AllocError, AllocFailed, Global};
+use std::alloc::{AllocError, AllocFailed};
 
-#[derive(Debug, Drop)]
+#[derive(Clone, Copy, Debug, PartialEq, Eq)]
 pub enum Line {
     // no word, or a comment
     Blank,
-    // a turn, by its bytes
-    Turn(Vec<u8>),
+    // a turn, whose bytes stand beside it
+    Turn,
     // what is not understood
     Unknown,
 }
@@ -154,20 +154,24 @@ fn is_comment(line: &[u8]) -> bool
     line.first() == Some(&b'#')
 }
 
-// What a line says.
-pub fn read_line(heap: Global, line: &[u8]) -> Result<Line, AllocError>
-    ensures { IfOk result (λ l. said l ≡ understood line.now) }
+// What a line says; where that is a turn, `turn` then holds its bytes, and else nothing.
+// The bytes go into a list of the caller's, which can serve for all lines.
+pub fn read_line(line: &[u8], turn: &mut Vec<u8>) -> Result<Line, AllocError>
+    ensures { IfOk result (λ l. LineSays l turn.new.items (understood line.now)) }
 {
+    turn.clear();
     if is_comment(line) {
         return Ok(Line::Blank);
     }
     let Some((name, rest)) = next_word(line) else {
         return Ok(Line::Blank);
     };
-    let mut turn = Vec::new(heap);
-    match read_command(name, rest, &mut turn) {
-        Ok(()) => Ok(Line::Turn(turn)),
-        Err(Unread::NotUnderstood) => Ok(Line::Unknown),
+    match read_command(name, rest, turn) {
+        Ok(()) => Ok(Line::Turn),
+        Err(Unread::NotUnderstood) => {
+            turn.clear();
+            Ok(Line::Unknown)
+        }
         Err(Unread::NoMemory) => Err(AllocError),
     }
 }

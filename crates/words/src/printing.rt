@@ -70,7 +70,9 @@ pub fn print<P: Shows>(
 ) -> Result<Vec<u8>, AllocError>
     ensures { IfOk result (λ out. out.items ≡ printed format wide high (P.seen page.now)) }
 {
-    let mut out = heading(heap, format, wide, high)?.into_bytes();
+    // in a list of its own: one that began with the heading's bytes would grow to other lengths
+    let mut out = Vec::new(heap);
+    out.extend_from_slice(heading(heap, format, wide, high)?.as_bytes())?;
     // rows too are asked for by number
     for y in 0..high {
         write_cells(format, page, wide, y, &mut out)?;

@@ -63,10 +63,11 @@ impl From<AllocError> for Trouble {
 fn take_line<P: Takes>(heap: Global, page: &mut P, line: &[u8]) -> Result<(), Trouble>
     ensures { LineTakes P.steps result (understood line.now) page.old page.new }
 {
-    match read_line(heap, line)? {
+    let mut turn = Vec::new(heap);
+    match read_line(line, &mut turn)? {
         Line::Blank => Ok(()),
         Line::Unknown => Err(Trouble::NotUnderstood),
-        Line::Turn(turn) => Ok(page.take(turn.as_slice())?),
+        Line::Turn => Ok(page.take(turn.as_slice())?),
     }
 }
 

@@ -1,19 +1,18 @@
 use Rattle.std.proofs.Common.{◌+◌, ◌≤◌, ◌∙◌, length, min, vec_items, refl, ap, ap₂, arith}
 use Rattle.reference.specs.Lists.{history_of}
 use Rattle.reference.proofs.Listing.{all_grow, history_grows, all_put, history_put, undone, redone_most}
-use Rattle.reference.proofs.Turned.{was_read, few, taken_edit, took, no_memory}
-use Rattle.reference.proofs.state.Engine.turn.Goals as goal
-use Rattle.reference.proofs.state.Engine.turn.Goals.{in-Undo, in-Redo, in-Does+in_ok-edit-in-Does+in_ok-put_behind-in-Does}
+use Rattle.reference.proofs.Turned.{taken_edit, no_memory_by}
+use Rattle.reference.proofs.state.Engine.step.Goals as goal
+use Rattle.reference.proofs.state.Engine.step.Goals.{in-Undo, in-Redo, in-Does+in_ok-edit-in-Does+in_ok-put_behind-in-Does}
 
 pub returns-in_err-edit-in-Does : goal.returns-in_err-edit-in-Does
 returns-in_err-edit-in-Does c =
     let s = c.args.self.now in
-    let read = was_read c.args.bytes.now s.taken _ _ c.in_ok-read_turn.field-0 c.in_ok-read_turn.was c.read_turn.ensures.scans c.against_turn.ensures in
-    no_memory c.args.bytes.now s _ c.in_ok-read_turn.field-0 _ read c.from_residual-in_err-edit-in-Does.ensures.1
+    no_memory_by c.args.bytes.now s _ c.args.turn _ c.from_residual.ensures.1
     (record { same_size = refl; same_taken = refl; history_is = ap (λ b. history_of b (vec_items s.edits) s.done) c.in_err-edit-in-Does.ensures.items })
 
-pub invariant_of-self-in-Break-branch-4 : goal.invariant_of-self-in-Break-branch-4
-invariant_of-self-in-Break-branch-4 c =
+pub invariant_of-self-in-Break-branch-2 : goal.invariant_of-self-in-Break-branch-2
+invariant_of-self-in-Break-branch-2 c =
     let s = c.args.self.now in
     let put = c.in_err-put_behind-in-Does.ensures in
     record {
@@ -24,8 +23,7 @@ invariant_of-self-in-Break-branch-4 c =
 pub returns-in_err-put_behind-in-Does : goal.returns-in_err-put_behind-in-Does
 returns-in_err-put_behind-in-Does c =
     let s = c.args.self.now in
-    let read = was_read c.args.bytes.now s.taken _ _ c.in_ok-read_turn.field-0 c.in_ok-read_turn.was c.read_turn.ensures.scans c.against_turn.ensures in
-    no_memory c.args.bytes.now s _ c.in_ok-read_turn.field-0 _ read c.from_residual-in_err-put_behind-in-Does.ensures.1
+    no_memory_by c.args.bytes.now s _ c.args.turn _ c.from_residual-in_err-put_behind-in-Does.ensures.1
     (record {
       same_size = refl;
       same_taken = refl;
@@ -36,13 +34,13 @@ returns-in_err-put_behind-in-Does c =
 pub invariant_of-self-2 : goal.invariant_of-self-2
 invariant_of-self-2 c =
     let s = c.args.self.now in
-    let small = few s.taken _ c.against_turn.ensures c.in_ok-read_turn.ensures.means.free in
-    elim c.match-branch-2.branch [
+    let small = c.requires.few in
+    elim c.match-turn.branch [
       | in-Undo w ↦ rw w.self-is (record { counted = omega (arith, s.counted, small, w.saturating_sub-self.ensures); good = s.good })
       | in-Redo w ↦ rw w.self-is (record { counted = omega (arith, s.counted, small, w.min-self.ensures, w.len.ensures); good = s.good })
       | in-Does+in_ok-edit-in-Does+in_ok-put_behind-in-Does w ↦
           let bytes = w.in_ok-edit-in-Does.ensures.items in
-          let new = w.in_ok-edit-in-Does.ensures.reads _ (taken_edit c.args.bytes.now _ _ w.in-Does.field-0 w.in-Does.is c.in_ok-read_turn.ensures.means) in
+          let new = w.in_ok-edit-in-Does.ensures.reads _ (taken_edit c.args.bytes.now _ _ w.in-Does.field-0 w.in-Does.is c.requires.is) in
           rw w.self-is (record {
             counted = omega (arith, s.counted, small, w.in_ok-put_behind-in-Does.ensures.len);
             good = rw (bytes, w.in_ok-put_behind-in-Does.ensures.items)
@@ -55,13 +53,11 @@ returns c =
     let s = c.args.self.now in
     let bs = vec_items s.bytes in
     let es = vec_items s.edits in
-    let read = was_read c.args.bytes.now s.taken _ _ c.in_ok-read_turn.field-0 c.in_ok-read_turn.was c.read_turn.ensures.scans c.against_turn.ensures in
     let done : s.done ≤ length es = omega (arith, s.counted, s.edits.ok.0) in
-    took c.args.bytes.now s _ c.in_ok-read_turn.field-0 read
-    (record {
+    record {
       same_size = refl;
       one_taken = refl;
-      history_next = elim c.match-branch-2.branch [
+      history_next = elim c.match-turn.branch [
         | in-Undo w ↦
             ap (λ x. history_of (vec_items x.1.1.0) (vec_items x.1.1.1.0) x.1.1.1.1.0) w.self-is
             ∙ (ap (history_of bs es) w.saturating_sub-self.ensures ∙ rw w.in-Undo.is (undone bs es s.done done))
@@ -70,9 +66,9 @@ returns c =
             ∙ (ap (history_of bs es) (w.min-self.ensures ∙ ap (λ n. min n (s.done + 1)) (w.len.ensures ∙ s.edits.ok.0)) ∙ rw w.in-Redo.is (redone_most bs es s.done done))
         | in-Does+in_ok-edit-in-Does+in_ok-put_behind-in-Does w ↦
             let bytes = w.in_ok-edit-in-Does.ensures.items in
-            let new = w.in_ok-edit-in-Does.ensures.reads _ (taken_edit c.args.bytes.now _ _ w.in-Does.field-0 w.in-Does.is c.in_ok-read_turn.ensures.means) in
+            let new = w.in_ok-edit-in-Does.ensures.reads _ (taken_edit c.args.bytes.now _ _ w.in-Does.field-0 w.in-Does.is c.requires.is) in
             ap (λ x. history_of (vec_items x.1.1.0) (vec_items x.1.1.1.0) x.1.1.1.1.0) w.self-is
             ∙ (ap₂ (λ b e. history_of b e (s.done + 1)) bytes w.in_ok-put_behind-in-Does.ensures.items
             ∙ rw w.in-Does.is (history_put bs c.args.bytes.now es s.done w.in_ok-edit-in-Does.edit _ done s.good (rw bytes at new.1)))
       ];
-    })
+    }
